@@ -17,7 +17,8 @@ use Rattle.lists.proofs.SumLaws.{sum-add}
 use Rattle.table.specs.Table.{table_length, status, status_told, status_crashed, status_alone, told_by, live}
 use Rattle.table.specs.Properties.{live_count, no_live_suspicion, none_suspected}
 use Rattle.table.proofs.Accepting.{Accepted}
-use Rattle.plant.specs.Turn.{outcome_tested_told, makes_test, turn_tested, turn_outcome}
+use Rattle.plant.specs.Turn.{makes_test, turn_tested, turn_outcome}
+use Rattle.station.specs.Outcome.{outcome_tested_told}
 use Rattle.plant.specs.Entry.{Entry, State, is_crash, entry_refusal, after, tested_of, outcome_of}
 use Rattle.plant.proofs.RulesKept.{entry-facts}
 use Rattle.plant.proofs.RunLaws.{accepted-number}

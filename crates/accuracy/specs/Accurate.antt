@@ -5,7 +5,7 @@ use Rattle.std.specs.Prelude.{◌≡◌, ◌≢◌, ◌⊎◌, ℕ, ◌+◌, ◌
 use Rattle.lists.specs.Sums.{sum_below, bit}
 use Rattle.table.specs.Table.{table_length, status, status_crashed, status_told, status_alone, told_by, live}
 use Rattle.table.specs.Properties.{live_count, none_suspected}
-use Rattle.plant.specs.Turn.{outcome_told, outcome_tested_told}
+use Rattle.station.specs.Outcome.{outcome_told, outcome_tested_told}
 use Rattle.plant.specs.Entry.{State, outcome_of}
 use Rattle.detection.specs.Runs.{Call, Taken, after_runs, taken_all, table_after, is_late, crashes}
 use Rattle.detection.specs.Rounds.{all_taken, count_taken}

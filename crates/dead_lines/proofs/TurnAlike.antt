@@ -17,7 +17,9 @@ use Rattle.table.proofs.CellLaws.{row_same, row-length}
 use Rattle.station.specs.Wired.{wired_station}
 use Rattle.station.specs.Rows.{union, mark}
 use Rattle.station.proofs.UnionLaws.{union-length, mark-length}
-use Rattle.plant.specs.Turn.{outcome_exchanged, outcome_told, outcome_tested_told, set_status, leave_told, next_test, makes_test, finish_pass, next_after, count_test, replies, is_told, exchange_rows, suspect, reply_outcome, test_outcome, after_outcome, after_test, self_or_suspected, is_alone, after_alone, outcome_at, testing, turn, turn_tested, turn_outcome, crash}
+use Rattle.plant.specs.Turn.{set_status, leave_told, next_test, makes_test, finish_pass, count_test, replies, is_told, exchange_rows, suspect, reply_outcome, test_outcome, after_outcome, after_test, self_or_suspected, is_alone, after_alone, outcome_at, testing, turn, turn_tested, turn_outcome, crash}
+use Rattle.station.specs.Outcome.{outcome_exchanged, outcome_told, outcome_tested_told}
+use Rattle.station.specs.Wired.{next_after}
 use Rattle.plant.specs.Entry.{Entry, is_crash, is_test, acted, tested_of, outcome_of}
 use Rattle.plant.proofs.NextTest.{test-station}
 use Rattle.plant.proofs.StepCells.{count_test-other}

@@ -15,7 +15,8 @@ use Rattle.table.specs.Wiring.{end_distance}
 use Rattle.table.specs.Table.{cell, status_column, next_column, finished_column, tests_column, next_distance, finished, tests_made, live}
 use Rattle.station.proofs.Presence.{standing, standing-all, standing-more, standing-grows, standing-own}
 use Rattle.table.specs.Rules.{not_live, some_live, finished_if_live, live_finished, round_over}
-use Rattle.plant.specs.Turn.{next_test, makes_test, next_after}
+use Rattle.plant.specs.Turn.{next_test, makes_test}
+use Rattle.station.specs.Wired.{next_after}
 use Rattle.plant.specs.Round.{after_round}
 use Rattle.plant.proofs.NextTest.{next_test-low, test_below, test-station}
 use Rattle.plant.specs.Entry.{Entry, State, is_crash, acted, after}

@@ -23,7 +23,8 @@ use Rattle.station.specs.Tests.{unsuspected, due}
 use Rattle.lists.proofs.Xor.{xor-cancel}
 use Rattle.lists.proofs.SearchLaws.{both}
 use Rattle.table.proofs.CellLaws.{row-length, row_at}
-use Rattle.plant.specs.Turn.{next_test, makes_test, next_after}
+use Rattle.plant.specs.Turn.{next_test, makes_test}
+use Rattle.station.specs.Wired.{next_after}
 use Rattle.plant.specs.Entry.{Entry, State}
 use Rattle.plant.proofs.NextTest.{not-due-before, none-due}
 use Rattle.detection.specs.Runs.{Taken}

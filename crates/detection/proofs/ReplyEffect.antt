@@ -17,7 +17,8 @@ use Rattle.lists.proofs.BoolLaws.{by_bool, choice, every-same}
 use Rattle.lists.proofs.SearchLaws.{both, every-not}
 use Rattle.table.proofs.Accepting.{accepted}
 use Rattle.table.proofs.CellLaws.{cell_same, cell_other, ClosingChanges}
-use Rattle.plant.specs.Turn.{kind_turn, outcome_exchanged, outcome_told, outcome_tested_told, leave_told, makes_test, replies, is_told, exchange_rows, reply_outcome, test_outcome, after_outcome, self_or_suspected, is_alone, after_alone, after_test, testing, turn, turn_tested, turn_outcome}
+use Rattle.plant.specs.Turn.{kind_turn, leave_told, makes_test, replies, is_told, exchange_rows, reply_outcome, test_outcome, after_outcome, self_or_suspected, is_alone, after_alone, after_test, testing, turn, turn_tested, turn_outcome}
+use Rattle.station.specs.Outcome.{outcome_exchanged, outcome_told, outcome_tested_told}
 use Rattle.plant.specs.Round.{after_round}
 use Rattle.plant.specs.Entry.{Entry, State, is_crash, acted, after, tested_of, outcome_of}
 use Rattle.plant.proofs.StepCells.{leave_told-length, leave_told-other, leave_told-status, exchange-other, exchange-tester, exchange-tested, exchange-tester-own, exchange-tested-own}

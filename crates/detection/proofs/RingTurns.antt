@@ -11,7 +11,9 @@ use Rattle.table.specs.Table.{next_column, tests_column, next_distance, tests_ma
 use Rattle.table.proofs.WiringLaws.{end_ring}
 use Rattle.station.specs.Wired.{wired_station}
 use Rattle.station.proofs.WiredLaws.{ring-station}
-use Rattle.plant.specs.Turn.{outcome_exchanged, outcome_no_reply, next_test, makes_test, next_after}
+use Rattle.plant.specs.Turn.{next_test, makes_test}
+use Rattle.station.specs.Outcome.{outcome_exchanged, outcome_no_reply}
+use Rattle.station.specs.Wired.{next_after}
 use Rattle.plant.proofs.NextTest.{ring-next}
 use Rattle.plant.proofs.TurnHeads.{Heads}
 use Rattle.detection.proofs.TurnEffect.{Row, TurnKept}

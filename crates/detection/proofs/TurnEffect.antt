@@ -13,7 +13,8 @@ use Rattle.station.specs.Wired.{wired_station}
 use Rattle.table.specs.Table.{head, stride, table_length, cell, status_column, status, finished, suspects, live}
 use Rattle.station.proofs.WiredLaws.{station-apart}
 use Rattle.lists.proofs.SearchLaws.{every-not}
-use Rattle.plant.specs.Turn.{outcome_at, kind_turn, outcome_exchanged, outcome_no_reply, next_test, makes_test, finish_pass, count_test, replies, is_told, exchange_rows, suspect, reply_outcome, test_outcome, after_outcome, after_test, self_or_suspected, is_alone, after_alone, testing, turn}
+use Rattle.plant.specs.Turn.{outcome_at, kind_turn, next_test, makes_test, finish_pass, count_test, replies, is_told, exchange_rows, suspect, reply_outcome, test_outcome, after_outcome, after_test, self_or_suspected, is_alone, after_alone, testing, turn}
+use Rattle.station.specs.Outcome.{outcome_exchanged, outcome_no_reply}
 use Rattle.plant.proofs.StepCells.{finish_pass-other, count_test-other, suspect-same, suspect-other, exchange-other, exchange-tester, exchange-tested, exchange-tester-own, exchange-tested-own}
 use Rattle.plant.proofs.StepLines.{Lines, finish_pass-lines, count_test-lines, suspect-lines, exchange-lines}
 use Rattle.plant.proofs.NextTest.{next_test-low, test_below, test-station}

@@ -4,7 +4,7 @@
 use Rattle.std.specs.Prelude.{◌≡◌, ◌≢◌, Bool, true, false, List, [], ◌∷◌, ℕ, ◌+◌, min, ◌≤◌, ◌<◌, length, if◌then◌else◌}
 use Rattle.table.specs.Table.{table_length, status, status_told, told_by, not_recorded, rounds_ago, rounds_ago_top, suspects, live}
 use Rattle.table.specs.Rules.{numbered_table_refusal, round_over}
-use Rattle.plant.specs.Turn.{outcome_told, outcome_tested_told}
+use Rattle.station.specs.Outcome.{outcome_told, outcome_tested_told}
 use Rattle.plant.specs.Entry.{Entry, State, entry_refusal, acted, after, tested_of, outcome_of}
 use Rattle.detection.specs.Runs.{Call, Taken, after_runs, taken_all, table_after}
 use Rattle.detection.specs.Rounds.{count_taken}

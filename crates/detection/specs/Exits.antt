@@ -5,7 +5,8 @@ use Rattle.std.specs.Prelude.{◌≡◌, ◌≢◌, true, List, ℕ, max, ◌<�
 use Rattle.lists.specs.Search.{every}
 use Rattle.table.specs.Table.{status, suspects, live, status_told, status_alone}
 use Rattle.table.specs.Rules.{numbered_table_refusal}
-use Rattle.plant.specs.Turn.{outcome_exchanged, outcome_told, outcome_tested_told, replies, self_or_suspected}
+use Rattle.plant.specs.Turn.{replies, self_or_suspected}
+use Rattle.station.specs.Outcome.{outcome_exchanged, outcome_told, outcome_tested_told}
 use Rattle.plant.specs.Entry.{Entry, State, is_test, entry_refusal, after, tested_of, outcome_of}
 
 -- a taken entry whose test has a reply. At every entry that a run reaches, refusals 24 and 1 to 4 let its table through (`accepted-kept` of

@@ -20,8 +20,8 @@ ghost use Rattle.detection.specs.InList.{DetectionInList, DrivenDetectionInList}
 use granter::{Driven, drive};
 use plant::{Ran, Tally, run};
 
-// The run, wherever it stands in a list of runs: what the detection claim says of the list that ends with it holds of the table and tally that it
-// leaves: on the cube within d·d rounds, within 1 + d(d − 1)/2, and within the worst-case latency; on the ring within n − 1 and within n/2. It
+// The run, wherever it stands in a list of runs: if the list up to it meets the premises of the detection claim, the claim holds of the table and
+// tally that it leaves: on the cube within d·d rounds, within 1 + d(d − 1)/2, and within the worst-case latency; on the ring within n − 1 and within n/2. It
 // answers how many of its entries the list takes.
 pub fn run_in_list(
     wiring: usize,
@@ -41,8 +41,8 @@ pub fn run_in_list(
     run::run(wiring, n, table, tally, schedule, sheet)
 }
 
-// The drive, wherever it stands behind other drives: what the detection claim says of the plant that they drove holds of the table and tally that
-// it leaves: on the cube within d·d rounds, within 1 + d(d − 1)/2, and within the worst-case latency; on the ring within n − 1 and within n/2.
+// The drive, wherever it stands behind other drives: if the drives up to it meet the premises of the detection claim, the claim holds of the table
+// and tally that it leaves: on the cube within d·d rounds, within 1 + d(d − 1)/2, and within the worst-case latency; on the ring within n − 1 and within n/2.
 pub fn drive_in_list(wiring: usize, n: usize, table: &mut [u8], tally: Tally, last: usize) -> Driven
     ensures outcome { drive_outcome_with result table.new
         ≡ drive wiring n (state_with table.old tally) last }

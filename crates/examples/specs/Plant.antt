@@ -14,7 +14,8 @@ use Rattle.station.specs.Rows.{union_byte, union, mark}
 use Rattle.table.specs.Fresh.{fresh_byte, fresh_table}
 use Rattle.station.specs.Calls.{other_distances, assignment_entries}
 use Rattle.lists.specs.Steps.{after_steps}
-use Rattle.plant.specs.Turn.{leave_told, next_test, makes_test, finish_pass, next_after, count_test, replies, is_told, exchange_rows, suspect, reply_outcome}
+use Rattle.plant.specs.Turn.{leave_told, next_test, makes_test, finish_pass, count_test, replies, is_told, exchange_rows, suspect, reply_outcome}
+use Rattle.station.specs.Wired.{next_after}
 use Rattle.plant.specs.Turn.{test_outcome, after_outcome, self_or_suspected, is_alone, after_alone, after_test, testing, turn, turn_tested, turn_outcome}
 use Rattle.plant.specs.Turn.{crash}
 use Rattle.plant.specs.Round.{rounds_after, reset_line, reset_lines, after_round}

@@ -5,7 +5,7 @@ use crate::lengths::{EIGHT, ELEVEN, FOUR, TWO};
 use lists::refusal;
 use plant::entry::Entry;
 use plant::kind::Kind;
-use plant::outcome::Outcome;
+use station::outcome::Outcome;
 use plant::{Ran, Tally, run};
 use station::{due, groups, rows};
 use std::ops::ControlFlow;

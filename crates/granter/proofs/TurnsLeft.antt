@@ -17,7 +17,8 @@ use Rattle.table.specs.Table.{next_column, finished_column, next_distance, finis
 use Rattle.lists.proofs.BoolLaws.{by_bool, choice}
 use Rattle.lists.proofs.SumLaws.{sum_below-suc, sum_by}
 use Rattle.station.proofs.Presence.{standing, standing-all, standing-more, standing-grows, standing-own}
-use Rattle.plant.specs.Turn.{next_test, makes_test, next_after, outcome_at, turn}
+use Rattle.plant.specs.Turn.{next_test, makes_test, outcome_at, turn}
+use Rattle.station.specs.Wired.{next_after}
 use Rattle.plant.proofs.NextTest.{next_test-low, test_below, test-station}
 use Rattle.plant.proofs.StepLines.{Lines, next_after-between}
 use Rattle.plant.proofs.TurnHeads.{Heads, turn-heads}

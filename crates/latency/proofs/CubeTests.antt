@@ -24,7 +24,8 @@ use Rattle.station.specs.Groups.{station_at, is_present, width, member}
 use Rattle.station.specs.Tests.{unsuspected, first_place, first, due}
 use Rattle.station.proofs.WiredLaws.{cube_due}
 use Rattle.station.proofs.DueLaws.{unsuspected-at, is_station, due-first}
-use Rattle.plant.specs.Turn.{next_test, makes_test, next_after}
+use Rattle.plant.specs.Turn.{next_test, makes_test}
+use Rattle.station.specs.Wired.{next_after}
 use Rattle.plant.specs.Entry.{Entry, State}
 use Rattle.plant.proofs.NextTest.{next_test-low, test-due}
 use Rattle.slots.proofs.Counts.{sum-le}

@@ -28,7 +28,7 @@ pub fn drive_within()
     ensures { DriveWithin }
 {}
 
-// And of drives, by their grants.
+// The same for drives, counted in grants.
 pub fn drives_known_within()
     ensures { DrivesKnownWithin }
 {}

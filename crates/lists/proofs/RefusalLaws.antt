@@ -6,7 +6,7 @@ use native.Mathlib.Omega.{arith}
 use Rattle.std.specs.Prelude.{Result, Ok, Err}
 use Rattle.lists.specs.declared.refusal.Refusal.{Refusal}
 use Rattle.lists.specs.declared.refusal.Refusal.TheVariants.{SizeOutOfRange, TableLength, LineRule, RoundNotClosed, ScheduleLength, SheetLength, TallyFull, UnknownKind, NoSuchStation, NotLive, PassFinished, NoSuchLevel, ListLength, NoResult, TooManyResults, LastGranted, NoneLive, FieldPastEnd, SizeOrTallyField, LineField}
-use Rattle.lists.specs.declared.refusal.Refusal.TheVariants.{NoOpening, FieldOrder, ReportTooShort, NoSuchWiring}
+use Rattle.lists.specs.declared.refusal.Refusal.TheVariants.{NoOpening, FieldOrder, ReportTooShort, NoSuchWiring, LineLength}
 use Rattle.lists.specs.Refusal.{number_of, number_of_result, Check, ensure, ◌and◌, unless_refused}
 
 -- no refusal has the number 0
@@ -35,6 +35,7 @@ number_nonzero NoOpening e = omega arith
 number_nonzero FieldOrder e = omega arith
 number_nonzero ReportTooShort e = omega arith
 number_nonzero NoSuchWiring e = omega arith
+number_nonzero LineLength e = omega arith
 
 -- a number of 0 says that nothing was refused
 pub check_zero : (c : Check) → number_of_result c ≡ 0 → c ≡ Ok tt

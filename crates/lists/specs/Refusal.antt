@@ -4,7 +4,7 @@ use Rattle.std.specs.Prelude.{ℕ, Bool, List, codes, Option, None, Some, Result
 use Rattle.std.specs.Result.{result_and}
 use Rattle.lists.specs.declared.refusal.Refusal.{Refusal}
 use Rattle.lists.specs.declared.refusal.Refusal.TheVariants.{SizeOutOfRange, TableLength, LineRule, RoundNotClosed, ScheduleLength, SheetLength, TallyFull, UnknownKind, NoSuchStation, NotLive, PassFinished, NoSuchLevel, ListLength, NoResult, TooManyResults, LastGranted, NoneLive, FieldPastEnd, SizeOrTallyField, LineField}
-use Rattle.lists.specs.declared.refusal.Refusal.TheVariants.{NoOpening, FieldOrder, ReportTooShort, NoSuchWiring}
+use Rattle.lists.specs.declared.refusal.Refusal.TheVariants.{NoOpening, FieldOrder, ReportTooShort, NoSuchWiring, LineLength}
 
 -- its number in the refusal list
 abbrev pub number_of : Refusal → ℕ
@@ -32,12 +32,13 @@ number_of NoOpening = 21
 number_of FieldOrder = 22
 number_of ReportTooShort = 23
 number_of NoSuchWiring = 24
+number_of LineLength = 25
 
 -- what it says to people
 abbrev pub refusal_words : Refusal → List ℕ
 refusal_words SizeOutOfRange = codes "a plant has 2 to 64 boards"
 refusal_words TableLength = codes "the table's length is not n(n + 6)"
-refusal_words LineRule = codes "a line of the table breaks a line rule"
+refusal_words LineRule = codes "a line breaks a line rule"
 refusal_words RoundNotClosed = codes "every live board has finished its pass, but the round is not closed"
 refusal_words ScheduleLength = codes "the schedule has an odd number of bytes"
 refusal_words SheetLength = codes "the run sheet is not twice as long as the schedule"
@@ -59,6 +60,7 @@ refusal_words NoOpening = codes "the file does not begin as edition 2 does; if i
 refusal_words FieldOrder = codes "a field is out of order or has an unknown tag"
 refusal_words ReportTooShort = codes "the buffer for the report has fewer than 4n(n + 6) bytes"
 refusal_words NoSuchWiring = codes "the wiring is neither 1, the cube, nor 2, the ring"
+refusal_words LineLength = codes "the length of the board's line is not n + 6"
 
 -- the refusal with a number of the refusal list
 unfoldable pub refusal_with : ℕ → Option Refusal
@@ -71,7 +73,7 @@ refusal_with number =
     if number == 16 then Some LastGranted else (if number == 17 then Some NoneLive else (if number == 18 then Some FieldPastEnd else (
     if number == 19 then Some SizeOrTallyField else (if number == 20 then Some LineField else (if number == 21 then Some NoOpening else (
     if number == 22 then Some FieldOrder else (if number == 23 then Some ReportTooShort else (
-    if number == 24 then Some NoSuchWiring else None)))))))))))))))))))))))
+    if number == 24 then Some NoSuchWiring else (if number == 25 then Some LineLength else None))))))))))))))))))))))))
 
 -- the number of an answer: 0 where the call is not refused
 abbrev pub number_of_result : {A : Type 0} → Result A Refusal → ℕ

@@ -7,7 +7,7 @@ ghost use Rattle.lists.specs.Bytes.{joined_bytes, with_joined};
 pub fn greater(a: u8, b: u8) -> u8
     ensures { result ≡ max a b }
 {
-    // Not std's `max`: with it the check of a table went at 0.93 times the speed with 8, 16 and 63 boards (tests/bench, an empty schedule).
+    // An `if` and not std's `max`, with which the check of a table is slower.
     if a < b { b } else { a }
 }
 
@@ -53,8 +53,8 @@ pub fn write_joined(list: &[u8], other: &[u8], out: &mut [u8])
     if out.len() < list.len() {
         return;
     }
-    // By an index, as `join_bytes`. Not a copy and `join_bytes`, though that is shorter: with lists of 8, 16, 32, 63 and 64 bytes it took 1.4 to
-    // 1.7 times as long (both forms by themselves, written in Rust), and each exchange of two rows that are not the same calls this.
+    // By an index, as `join_bytes`. Not a copy and `join_bytes`, though that is shorter: each exchange of two unequal rows calls this, and one loop
+    // is faster.
     for k in 0..list.len() {
         out[k] = list[k].max(other[k]);
     }
@@ -64,7 +64,7 @@ pub fn write_joined(list: &[u8], other: &[u8], out: &mut [u8])
 pub fn same_bytes(list: &[u8], other: &[u8]) -> bool
     ensures { IsTrue result ↔ (list.now ≡ other.now) }
 {
-    // Not `==`: with it a run of 32 boards with nobody dead went at 0.94 times the speed, with 8 dead at 0.96 (tests/bench, many rounds).
+    // A loop and not `==`, with which runs are slower.
     if list.len() != other.len() {
         return false;
     }

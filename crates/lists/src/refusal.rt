@@ -33,6 +33,7 @@ pub enum Refusal {
     FieldOrder = 22,
     ReportTooShort = 23,
     NoSuchWiring = 24,
+    LineLength = 25,
 }
 
 impl Refusal {
@@ -50,7 +51,7 @@ impl Refusal {
         match self {
             Refusal::SizeOutOfRange => "a plant has 2 to 64 boards",
             Refusal::TableLength => "the table's length is not n(n + 6)",
-            Refusal::LineRule => "a line of the table breaks a line rule",
+            Refusal::LineRule => "a line breaks a line rule",
             Refusal::RoundNotClosed =>
                 "every live board has finished its pass, but the round is not closed",
             Refusal::ScheduleLength => "the schedule has an odd number of bytes",
@@ -78,6 +79,7 @@ impl Refusal {
             Refusal::FieldOrder => "a field is out of order or has an unknown tag",
             Refusal::ReportTooShort => "the buffer for the report has fewer than 4n(n + 6) bytes",
             Refusal::NoSuchWiring => "the wiring is neither 1, the cube, nor 2, the ring",
+            Refusal::LineLength => "the length of the board's line is not n + 6",
         }
     }
 
@@ -111,6 +113,7 @@ impl Refusal {
             22 => Some(Refusal::FieldOrder),
             23 => Some(Refusal::ReportTooShort),
             24 => Some(Refusal::NoSuchWiring),
+            25 => Some(Refusal::LineLength),
             _ => None,
         }
     }

@@ -64,7 +64,7 @@ impl<'a> Mending<'a> {
             after: byte,
         };
         let place = 4 * self.changes;
-        // By index: by `copy_from_slice` random bytes were mended 0.87 times as fast as by plain Rust, and are 1.5 times as fast so.
+        // By index, which is faster here than `copy_from_slice`.
         let [high, low, old, new] = change.bytes();
         self.report[place] = high;
         self.report[place + 1] = low;

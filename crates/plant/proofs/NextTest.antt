@@ -1,11 +1,9 @@
 -- Laws of the distance that a turn tests, on either wiring.
 -- Assumes nothing.
 use mathlib.Core.Path.{◌≡◌}
-use mathlib.Core.Logic.{by_cases}
 use mathlib.Core.Bool.{true, false}
 use mathlib.Core.List.{List}
 use Prim.Native.Nat.{ℕ, ◌-◌, ◌≤◌, ◌<◌}
-use native.Mathlib.Decide.{dec_lt}
 use native.Mathlib.Omega.{arith}
 use borrow.Author.Tests.{ltb-true, ltb-false}
 use lib.ListN.{length}
@@ -14,24 +12,20 @@ use Rattle.table.specs.Wiring.{is_ring, end_distance}
 use Rattle.station.specs.Wired.{wired_station, wired_due}
 use Rattle.table.specs.Table.{table_length, next_distance, row}
 use Rattle.station.specs.Tests.{due}
-use Rattle.lists.proofs.BoolLaws.{least-same}
-use Rattle.lists.proofs.SearchLaws.{least-between, least-passes, least-before, least-is}
+use Rattle.lists.proofs.SearchLaws.{least-between, least-passes, least-before}
 use Rattle.table.proofs.CellLaws.{row-length}
-use Rattle.station.proofs.WiredLaws.{cube_due, ring_due, station-present}
+use Rattle.station.proofs.WiredLaws.{cube-next_due, ring-next_due, station-present}
 use Rattle.plant.specs.Turn.{next_test, makes_test}
 
 module _ (w n : ℕ) (t : List ℕ) (i : ℕ) where
   -- on the cube it is the least due distance, on the ring the next one
   pub cube-next : is_ring w ≡ false → next_test w n t i ≡ least (due (row n t i) i) (end_distance w n - next_distance n t i) (next_distance n t i)
   unfolding next_test
-  cube-next c = least-same _ _ _ _ (λ y a b. cube_due w (row n t i) i y c)
+  cube-next c = cube-next_due w n (row n t i) i (next_distance n t i) c
 
   pub ring-next : is_ring w ≡ true → next_test w n t i ≡ next_distance n t i
   unfolding next_test
-  ring-next r =
-      by_cases (dec_lt (next_distance n t i) (end_distance w n))
-      (λ l. least-is _ _ _ _ (omega arith) (omega arith) (ring_due w (row n t i) i (next_distance n t i) r) (λ y a b. absurd (omega arith)))
-      (λ l. omega (arith, least-between (wired_due w (row n t i) i) (end_distance w n - next_distance n t i) (next_distance n t i)))
+  ring-next r = ring-next_due w n (row n t i) i (next_distance n t i) r
 
   pub next_test-low : next_distance n t i ≤ next_test w n t i
   unfolding next_test

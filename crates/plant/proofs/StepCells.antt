@@ -13,7 +13,8 @@ use Rattle.lists.specs.Bytes.{joined_byte}
 use Rattle.station.specs.Rows.{union_byte, union, mark}
 use Rattle.table.proofs.CellLaws.{cell_same, cell_other, set_cell-length, row-length, row_at, set_row-length, set_row-in, set_row-out}
 use Rattle.station.proofs.UnionLaws.{union-length, union-at, union-own, union-others, mark-length, mark-same, mark-other}
-use Rattle.plant.specs.Turn.{set_status, leave_told, finish_pass, next_after, count_test, exchange_rows, suspect}
+use Rattle.plant.specs.Turn.{set_status, leave_told, finish_pass, count_test, exchange_rows, suspect}
+use Rattle.station.specs.Wired.{next_after}
 
 module _ (n : ℕ) (t : List ℕ) (i : ℕ) where
   -- the end of a pass: next distance the end distance, finished 1

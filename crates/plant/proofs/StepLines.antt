@@ -19,7 +19,9 @@ use Rattle.lists.proofs.SearchLaws.{both}
 use Rattle.station.proofs.WiredLaws.{station-apart}
 use Rattle.table.specs.Rules.{exit_rule}
 use Rattle.table.proofs.CellLaws.{Line, live_exit, told-exit, none-exit, cell_same, cell_other, set_cell-length}
-use Rattle.plant.specs.Turn.{outcome_exchanged, outcome_told, outcome_tested_told, set_status, leave_told, makes_test, next_test, finish_pass, next_after, count_test, exchange_rows, suspect, after_outcome, after_test, is_alone, after_alone, outcome_at, testing, turn}
+use Rattle.plant.specs.Turn.{set_status, leave_told, makes_test, next_test, finish_pass, count_test, exchange_rows, suspect, after_outcome, after_test, is_alone, after_alone, outcome_at, testing, turn}
+use Rattle.station.specs.Outcome.{outcome_exchanged, outcome_told, outcome_tested_told}
+use Rattle.station.specs.Wired.{next_after}
 use Rattle.plant.proofs.NextTest.{next_test-low, test_below, test-station}
 use Rattle.plant.proofs.StepCells.{leave_told-length, leave_told-other, leave_told-status, leave_told-teller, finish_pass-length, finish_pass-other, finish_pass-next, finish_pass-finished, count_test-length, count_test-other, count_test-next, count_test-tests, suspect-length, suspect-same, suspect-other, exchange-length, exchange-other, exchange-tester, exchange-tested, exchange-tester-own, exchange-tested-own}
 

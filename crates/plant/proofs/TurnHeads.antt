@@ -14,7 +14,9 @@ use Rattle.table.specs.Wiring.{wiring_cube, end_distance}
 use Rattle.station.specs.Wired.{wired_station, wired_due}
 use Rattle.table.specs.Table.{table_length, cell, status_column, next_column, finished_column, tests_column, next_distance, finished, tests_made, row, status_alone}
 use Rattle.table.proofs.CellLaws.{TurnCounts, cell_other}
-use Rattle.plant.specs.Turn.{outcome_exchanged, outcome_told, outcome_tested_told, set_status, leave_told, next_test, makes_test, next_after, count_test, after_outcome, after_test, is_alone, after_alone, outcome_at, testing, turn}
+use Rattle.plant.specs.Turn.{set_status, leave_told, next_test, makes_test, count_test, after_outcome, after_test, is_alone, after_alone, outcome_at, testing, turn}
+use Rattle.station.specs.Outcome.{outcome_exchanged, outcome_told, outcome_tested_told}
+use Rattle.station.specs.Wired.{next_after}
 use Rattle.plant.proofs.NextTest.{next_test-low, not-due-before, test_below, test-station, test-due, none-due}
 use Rattle.plant.proofs.StepCells.{leave_told-other, finish_pass-other, finish_pass-next, finish_pass-finished, count_test-length, count_test-other, count_test-next, count_test-tests, suspect-other, exchange-other}
 use Rattle.station.specs.Tests.{due}

@@ -8,7 +8,8 @@ use Rattle.table.specs.Rules.{round_over, station_check}
 use Rattle.plant.specs.declared.Tally.{Tally}
 use Rattle.plant.specs.declared.entry.Entry.{Entry as Known}
 use Rattle.plant.specs.Kind.{kind_byte}
-use Rattle.plant.specs.Turn.{kind_crash, outcome_finished, outcome_crash, no_station, makes_test, turn, turn_tested, turn_outcome, crash}
+use Rattle.plant.specs.Turn.{kind_crash, makes_test, turn, turn_tested, turn_outcome, crash}
+use Rattle.station.specs.Outcome.{outcome_finished, outcome_crash, no_station}
 use Rattle.plant.specs.Round.{after_round}
 
 -- Rule Entry: two bytes, a kind and a station

@@ -1,7 +1,6 @@
 -- What the contracts of `plant` cite: what an entry does, and the run.
 pub mod Turn
 pub mod Kind
-pub mod Outcome
 pub mod Round
 pub mod Entry
 pub mod Run

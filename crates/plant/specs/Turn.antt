@@ -1,11 +1,13 @@
 -- A turn of one station and a crash, as functions of the table. w is the wiring's number, station i the entry's, kind its kind, j the tested
 -- station.
 -- Assumes nothing.
-use Rattle.std.specs.Prelude.{ℕ, ◌+◌, ◌-◌, Bool, ◌&&◌, ◌||◌, List, if◌then◌else◌, ◌==◌, nat_lt}
-use Rattle.lists.specs.Search.{least, every}
-use Rattle.table.specs.Wiring.{is_ring, end_distance}
-use Rattle.table.specs.Table.{set_cell, status_column, next_column, finished_column, tests_column, told_by_column, next_distance, tests_made, suspects, live, row, set_row, status_alone, status_crashed, status_told}
-use Rattle.station.specs.Wired.{wired_station, wired_due}
+use Rattle.std.specs.Prelude.{ℕ, Bool, ◌&&◌, ◌||◌, List, if◌then◌else◌, ◌==◌, nat_lt}
+use Rattle.lists.specs.Search.{every}
+use Rattle.table.specs.Wiring.{end_distance}
+use Rattle.table.specs.Table.{write_cells, set_cell, status_column, next_distance, tests_made, suspects, live, row, set_row, status_alone, status_crashed}
+use Rattle.station.specs.Wired.{wired_station, next_due}
+use Rattle.station.specs.Outcome.{outcome_finished, outcome_no_reply, no_station}
+use Rattle.station.specs.Step.{told_writes, finish_writes, count_writes, outcome_by, by_outcome}
 use Rattle.station.specs.Rows.{union, mark}
 
 -- Rule Kinds: 1 turn, 2 turn whose reply comes late, 3 crash
@@ -18,41 +20,18 @@ kind_late = 2
 abbrev pub kind_crash : ℕ
 kind_crash = 3
 
--- Rule Outcomes: on the run sheet 0 is pass finished, 1 exchanged, 2 tester told, 3 no reply, 4 crash, 5 tested told
-abbrev pub outcome_finished : ℕ
-outcome_finished = 0
-
-abbrev pub outcome_exchanged : ℕ
-outcome_exchanged = 1
-
-abbrev pub outcome_told : ℕ
-outcome_told = 2
-
-abbrev pub outcome_no_reply : ℕ
-outcome_no_reply = 3
-
-abbrev pub outcome_crash : ℕ
-outcome_crash = 4
-
-abbrev pub outcome_tested_told : ℕ
-outcome_tested_told = 5
-
--- what the sheet has for the tested station where there is none
-abbrev pub no_station : ℕ
-no_station = 255
-
 -- the station leaves with status s
 abbrev pub set_status : ℕ → List ℕ → ℕ → ℕ → List ℕ
 set_status n t i s = set_cell n t i status_column s
 
 -- Rules Tester told and Tested told: station a leaves because told by b. Its status becomes 2, and its byte 4 names b
 unfoldable pub leave_told : ℕ → List ℕ → ℕ → ℕ → List ℕ
-leave_told n t a b = set_cell n (set_status n t a status_told) a told_by_column b
+leave_told n t a b = write_cells n a t (told_writes b)
 
 -- Rules Next test of the cube and Next test of the ring: the least distance that is not below i's next distance and at which i is to test. On the
 -- ring that is the next distance itself. Where there is none: the end distance
 unfoldable pub next_test : ℕ → ℕ → List ℕ → ℕ → ℕ
-next_test w n t i = least (wired_due w (row n t i) i) (end_distance w n - next_distance n t i) (next_distance n t i)
+next_test w n t i = next_due w n (row n t i) i (next_distance n t i)
 
 -- whether there is one
 unfoldable pub makes_test : ℕ → ℕ → List ℕ → ℕ → Bool
@@ -60,16 +39,12 @@ makes_test w n t i = nat_lt (next_test w n t i) (end_distance w n)
 
 -- Rule End of a pass: next distance becomes the end distance, and the pass is finished. No test is made
 unfoldable pub finish_pass : ℕ → ℕ → List ℕ → ℕ → List ℕ
-finish_pass w n t i = set_cell n (set_cell n t i next_column (end_distance w n)) i finished_column 1
-
--- Rules Next distance of the cube and Next distance of the ring: after a test at distance m it is m + 1; but n after an exchange on the ring
-unfoldable pub next_after : ℕ → ℕ → ℕ → ℕ → ℕ
-next_after w n m outcome = if is_ring w && outcome == outcome_exchanged then n else m + 1
+finish_pass w n t i = write_cells n i t (finish_writes w n)
 
 -- Rule Count the test, by its outcome: next distance becomes what the wiring says, and i's tests made go up by one. The tally's tests grow in
 -- `after`
 unfoldable pub count_test : ℕ → ℕ → List ℕ → ℕ → ℕ → ℕ → List ℕ
-count_test w n t i m outcome = set_cell n (set_cell n t i next_column (next_after w n m outcome)) i tests_column (tests_made n t i + 1)
+count_test w n t i m outcome = write_cells n i t (count_writes w n m outcome (tests_made n t i))
 
 -- Rule Reply in time: j is live, and the kind is 1
 unfoldable pub replies : ℕ → List ℕ → ℕ → ℕ → Bool
@@ -89,7 +64,7 @@ suspect n t i j = set_row n t i (mark (row n t i) j)
 
 -- Rule Outcomes, where j replies: Tester told if j suspects i; else Tested told if i suspects j; else Exchange
 unfoldable pub reply_outcome : ℕ → List ℕ → ℕ → ℕ → ℕ
-reply_outcome n t i j = if is_told n t i j then outcome_told else (if is_told n t j i then outcome_tested_told else outcome_exchanged)
+reply_outcome n t i j = outcome_by (is_told n t i j) (is_told n t j i)
 
 -- Rule Outcomes, of the test of j: as above if j replies in time, else No reply
 unfoldable pub test_outcome : ℕ → List ℕ → ℕ → ℕ → ℕ → ℕ
@@ -98,9 +73,7 @@ test_outcome n t kind i j = if replies n t kind j then reply_outcome n t i j els
 -- what the test of j does to the table, by its outcome: i leaves; or j leaves; or both rows become the union; or, without a reply, i suspects j
 unfoldable pub after_outcome : ℕ → List ℕ → ℕ → ℕ → ℕ → List ℕ
 after_outcome n t i j outcome =
-    if outcome == outcome_told then leave_told n t i j
-    else (if outcome == outcome_tested_told then leave_told n t j i
-    else (if outcome == outcome_exchanged then exchange_rows n t i j else suspect n t i j))
+    by_outcome outcome (leave_told n t i j) (leave_told n t j i) (exchange_rows n t i j) (suspect n t i j)
 
 -- Rule Alone, of one station k: i suspects it, or it is i itself
 unfoldable pub self_or_suspected : ℕ → List ℕ → ℕ → ℕ → Bool

@@ -4,12 +4,12 @@ ghost use Rattle.std.specs.Result.{result_map_both};
 ghost use Rattle.table.specs.Lent.{IsSameLoan};
 ghost use Rattle.table.specs.Wiring.{wiring_number};
 ghost use Rattle.table.specs.Rules.{numbered_table_refusal};
-ghost use Rattle.plant.specs.Outcome.{tested_byte, outcome_byte};
+ghost use Rattle.station.specs.Outcome.{tested_byte, outcome_byte};
 ghost use Rattle.plant.specs.Entry.{state_with, entry_of, entry_known, entry_check, entry_refusal, shows_test, acted, after, tested_of, outcome_of, sheet_line};
 
 use crate::kind::Kind;
-use crate::outcome::Outcome;
-use crate::wired::Wired;
+use station::outcome::Outcome;
+use station::wired::Wired;
 use crate::{Tally, rounds, steps};
 use lists::refusal::Refusal;
 use table::lent::{Table, TableMut};

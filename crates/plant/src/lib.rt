@@ -7,12 +7,10 @@
 pub mod claims;
 pub mod entry;
 pub mod kind;
-pub mod outcome;
 mod rounds;
 pub mod run;
 pub mod single;
 mod steps;
-mod wired;
 
 use lists::refusal::Refusal;
 

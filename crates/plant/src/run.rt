@@ -6,7 +6,7 @@ ghost use Rattle.table.specs.Wiring.{wiring_number};
 ghost use Rattle.plant.specs.Entry.{state_with};
 ghost use Rattle.plant.specs.Run.{entries, go_on, start_check, start_refusal, outcome_with, run};
 
-use crate::wired::Wired;
+use station::wired::Wired;
 use crate::{Ran, Tally, entry};
 use lists::refusal::Refusal;
 use table::Station;

@@ -1,25 +1,22 @@
 // A turn of one station.
-ghost use Rattle.std.specs.Prelude.{◌≡◌, ◌≢◌, ◌-◌, ◌<◌};
-ghost use Rattle.lists.specs.Search.{least};
+ghost use Rattle.std.specs.Prelude.{◌≡◌, ◌≢◌, ◌<◌};
 ghost use Rattle.table.specs.Lent.{IsSameLoan};
 ghost use Rattle.table.specs.Table.{tests_made, row, set_row};
 ghost use Rattle.table.specs.Wiring.{wiring_number};
 ghost use Rattle.station.specs.Wired.{wired_station};
 ghost use Rattle.station.specs.Rows.{union};
 ghost use Rattle.table.specs.Rules.{numbered_table_refusal};
-ghost use Rattle.station.specs.Tests.{due};
 ghost use Rattle.plant.specs.Kind.{kind_byte};
-ghost use Rattle.plant.specs.Outcome.{tested_byte, outcome_byte};
+ghost use Rattle.station.specs.Outcome.{tested_byte, outcome_byte};
 ghost use Rattle.plant.specs.Turn.{next_test, finish_pass, count_test, replies, exchange_rows, suspect, leave_told, reply_outcome, test_outcome, after_outcome, self_or_suspected, is_alone, after_alone, outcome_at, testing, turn, turn_tested, turn_outcome};
 
 use crate::kind::Kind;
-use crate::outcome::Outcome;
-use crate::wired::Wired;
 use lists::bytes;
-use station::{DueOrAhead, due, rows};
+use station::outcome::Outcome;
+use station::rows;
+use station::wired::Wired;
 use table::lent::{Table, TableMut};
 use table::status::Status;
-use table::wiring::Wiring;
 use table::{Distance, Station, cells};
 
 // The turn of station i. That the table obeys the rules is a `requires`, here and in the callers, and no ghost field of the table: after the turn
@@ -46,40 +43,14 @@ pub(crate) fn take_turn(wired: Wired, table: &mut TableMut, kind: Kind, i: Stati
 }
 
 // The next test: the least distance to test at that is not below the next one; the end distance where there is none.
+#[tactic(auto, unfolding(crate::specs::Turn::next_test))]
 fn next_test(wired: Wired, table: &Table, i: Station) -> Distance
     requires same_size { wired.n ≡ table.now.n }
     requires station_below { i.0 < table.now.n }
     ensures { let w = wiring_number wired.wiring in
         result.0 ≡ next_test w table.now.n table.now.bytes.now i.0 }
 {
-    let next = table.next_distance(i);
-    match wired.wiring {
-        Wiring::Cube => scan(table.row(i), i, wired.end, next),
-        Wiring::Ring => next,
-    }
-}
-
-// The least distance from `from` on, and below `end`, that is due for i by its row; `end`, or `from` if that is greater, where there is none.
-// Where the answer is not "due", no distance of the block that begins there is due, and the scan goes on behind it.
-fn scan(row: &[u8], i: Station, end: u8, from: Distance) -> Distance
-    ensures { result.0 ≡ least (due row.now i.0) (end - from.0) from.0 }
-{
-    let mut m = from.0 as u16;
-    while m < end as u16 {
-        let at = Distance(m as u8);
-        if !due::stands(row, i, at) {
-            m += 1;
-            continue;
-        }
-        let answer = due::due_or_ahead(row, i, at);
-        let DueOrAhead::Due = answer else {
-            let last = due::block_end(at);
-            m = last.0 as u16 + 1;
-            continue;
-        };
-        return at;
-    }
-    Distance(end.max(from.0))
+    wired.next_due(table.row(i), i, table.next_distance(i))
 }
 
 // The end of a pass: there is no next test.

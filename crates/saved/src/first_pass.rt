@@ -18,7 +18,7 @@ pub struct Found {
 }
 
 impl Found {
-    // What is found with one field more. It is refused if it stands there twice or has the wrong length.
+    // What is found with one field more. It is refused if it appears twice or has the wrong length.
     #[tactic(auto, using(crate::proofs::FirstPass::size_read), unfolding(crate::specs::Reading::found_with))]
     pub fn with(self, field: Field) -> Result<Found, Refusal>
         ensures { result ≡ found_with self (field_value field.entry) }

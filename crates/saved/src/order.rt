@@ -9,8 +9,8 @@ use crate::fields::{Field, Fields};
 use crate::{LINE, OPENING, SECOND, SIZE, TALLY};
 use lists::refusal::Refusal;
 
-// What a field is held against: the tag of the one before and the station of the previous line, 0 where there is none. Not `Option`: no tag and no
-// station is below 0, so that nobody need ask whether there is one before.
+// What a field is compared with: the tag of the one before and the station of the previous line, 0 where there is none: a sentinel, so that the
+// first field needs no special case.
 #[derive(Clone, Copy)]
 pub struct Previous {
     pub tag: u8,

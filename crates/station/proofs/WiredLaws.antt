@@ -10,13 +10,15 @@ use native.Mathlib.Decide.{dec_lt}
 use native.Mathlib.Omega.{arith}
 use lib.Bits.{xor_self}
 use lib.ListN.{length}
-use Rattle.lists.proofs.BoolLaws.{by_bool}
+use Rattle.lists.specs.Search.{least}
+use Rattle.lists.proofs.BoolLaws.{by_bool, least-same}
+use Rattle.lists.proofs.SearchLaws.{least-is, least-between}
 use Rattle.lists.proofs.Xor.{xor-cancel}
 use Rattle.table.specs.Wiring.{is_ring, end_distance}
 use Rattle.table.proofs.WiringLaws.{end_ring}
 use Rattle.station.specs.Groups.{station_at}
 use Rattle.station.specs.Tests.{due}
-use Rattle.station.specs.Wired.{wired_station, wired_due}
+use Rattle.station.specs.Wired.{wired_station, wired_due, next_due}
 use Rattle.station.proofs.DueLaws.{due-present}
 
 -- a place of the ring before n, and one behind it
@@ -48,6 +50,17 @@ cube_due w r i m e = rw e
 pub ring_due : (w : ℕ) (r : List ℕ) (i m : ℕ) → is_ring w ≡ true → wired_due w r i m ≡ true
 unfolding wired_due
 ring_due w r i m e = rw e
+
+-- the next test, on the cube by the due distances; on the ring it is the next distance
+pub cube-next_due : (w n : ℕ) (r : List ℕ) (i next : ℕ) → is_ring w ≡ false
+    → next_due w n r i next ≡ least (due r i) (end_distance w n - next) next
+cube-next_due w n r i next c = least-same _ _ _ _ (λ y a b. cube_due w r i y c)
+
+pub ring-next_due : (w n : ℕ) (r : List ℕ) (i next : ℕ) → is_ring w ≡ true → next_due w n r i next ≡ next
+ring-next_due w n r i next e =
+    by_cases (dec_lt next (end_distance w n))
+    (λ l. least-is _ _ _ _ (omega arith) (omega arith) (ring_due w r i next e) (λ y a b. absurd (omega arith)))
+    (λ l. omega (arith, least-between (wired_due w r i) (end_distance w n - next) next))
 
 -- no station is at a positive distance from itself by the exclusive or
 xor-apart : (i m : ℕ) → 1 ≤ m → i ≢ station_at i m

@@ -60,7 +60,7 @@ fn check_range(n: u8, i: Station, s: Level) -> Result<(), Refusal>
 }
 
 // This function and the next ask for a level. A struct of n, i and s with that range is no plainer: its check would have a clause for each field.
-// They have one chain each, since what handed it out would hand out closures.
+// Each has its own iterator chain: a shared one would return closures, which the gate refuses.
 //
 // How many stations the group of i at level s has among n.
 fn group_length(n: u8, i: Station, s: Level) -> usize

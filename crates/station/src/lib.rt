@@ -14,7 +14,9 @@ pub mod claims;
 pub mod due;
 pub mod groups;
 pub mod order;
+pub mod outcome;
 pub mod rows;
+pub mod wired;
 
 use table::Station;
 

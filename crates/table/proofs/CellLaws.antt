@@ -1,6 +1,6 @@
 -- Laws of the cells and rows of a lent table, of specs/Table, and the line rules of specs/Rules as facts.
 -- Assumes nothing.
-use mathlib.Core.Path.{◌≡◌, refl, sym, ap, ◌∙◌}
+use mathlib.Core.Path.{◌≡◌, refl, sym, ap, ap₂, ◌∙◌}
 use mathlib.Core.Bool.{Bool, true, false, ◌&&◌, ◌||◌, or-true}
 use mathlib.Core.Logic.{◌≢◌}
 use mathlib.Core.List.{List, ◌++◌}
@@ -16,8 +16,9 @@ use lib.ListN.{length, get_or, take, drop, length-append, length-take, length-dr
 use lib.Seq.{length-take-le, get_or-append-add, get_or-take, get_or-drop, get_or-set_same, get_or-set_other, ext_get_or}
 use Rattle.table.specs.Wiring.{end_distance}
 use Rattle.table.specs.Table.{head, stride, table_length, line_start, cell, set_cell, status, next_distance, finished, tests_made, status_told, told_by, told_by_column, told_by_none, not_recorded, rounds_ago, rounds_ago_column, suspects, row_start, row, set_row, next_column, tests_column}
-use Rattle.table.specs.Rules.{pass_rule, exit_rule, suspicion_rule, row_rule, wired_line_rules}
+use Rattle.table.specs.Rules.{pass_rule, exit_rule, suspicion_rule, row_rule_by, row_rule, wired_line_rules}
 use Rattle.lists.specs.Search.{every}
+use Rattle.lists.proofs.BoolLaws.{every-same}
 use Rattle.lists.proofs.SearchLaws.{both, every-suc, every-at, every-all}
 use Rattle.table.proofs.Accepting.{Accepted}
 
@@ -86,14 +87,14 @@ module _ (t r : List ℕ) (a m : ℕ) (fits : a + m ≤ length t) (long : length
   at_front : length (take a t) ≡ a
   at_front = length-take-le a t (omega arith)
 
-  spliced-before : (p : ℕ) → p < a → get_or (take a t ++ (r ++ drop m (drop a t))) p 0 ≡ get_or t p 0
+  pub spliced-before : (p : ℕ) → p < a → get_or (take a t ++ (r ++ drop m (drop a t))) p 0 ≡ get_or t p 0
   spliced-before p h = get_or-append (take a t) (r ++ drop m (drop a t)) 0 p (omega (arith, at_front)) ∙ get_or-take a t p 0 h
 
-  spliced-in : (k : ℕ) → k < m → get_or (take a t ++ (r ++ drop m (drop a t))) (a + k) 0 ≡ get_or r k 0
+  pub spliced-in : (k : ℕ) → k < m → get_or (take a t ++ (r ++ drop m (drop a t))) (a + k) 0 ≡ get_or r k 0
   spliced-in k h =
       cc (at_front, get_or-append-add (take a t) (r ++ drop m (drop a t)) k 0, get_or-append r (drop m (drop a t)) 0 k (omega arith))
 
-  spliced-after : (k : ℕ) → get_or (take a t ++ (r ++ drop m (drop a t))) (a + (m + k)) 0 ≡ get_or t (a + (m + k)) 0
+  pub spliced-after : (k : ℕ) → get_or (take a t ++ (r ++ drop m (drop a t))) (a + (m + k)) 0 ≡ get_or t (a + (m + k)) 0
   spliced-after k =
       cc (
         at_front,
@@ -137,12 +138,17 @@ set_row-out n t i r i' c long h hr hc out = pick (dec_lt p a) (dec_lt p (a + n))
         let e : p ≡ a + (n + (p - (a + n))) = omega arith in
         rw e (spliced-after t r a n fits hr (p - (a + n)))
 
+-- the rules of a row, of row i of a table
+pub row_rule_of_row : (n : ℕ) (t r : List ℕ) (i : ℕ) → i < n → r ≡ row n t i → length r ≡ n → row_rule_by (length r) i (λ k. get_or r k 0) ≡ row_rule n t i
+unfolding row_rule
+row_rule_of_row n t r i h e l =
+    rw (l, e) (ap₂ (λ (a : ℕ) (b : Bool). eqb a 0 && b) (row_at n t i i h) (every-same _ _ n (λ k hk. ap (λ (a : ℕ). leb a 1) (row_at n t i k hk))))
+
 -- the greatest byte so far is in its range as long as all bytes passed are
-pub range-next : (n : ℕ) (t r : List ℕ) (i k greatest x : ℕ) → r ≡ row n t i → k < n → leb greatest 1 ≡ every (suspicion_rule n t i) k
-    → x ≡ max greatest (get_or r k 0) → leb x 1 ≡ every (suspicion_rule n t i) (k + 1)
-range-next n t r i k greatest x e h f g =
-    rw (g, add-one, every-suc (suspicion_rule n t i) k, ← f, e, row_at n t i k h)
-    (max-leb greatest (suspects n t i k) 1 (dec_le greatest 1) (dec_le (suspects n t i k) 1))
+pub range-next : (r : List ℕ) (k greatest x : ℕ) → leb greatest 1 ≡ every (λ j. leb (get_or r j 0) 1) k → x ≡ max greatest (get_or r k 0)
+    → leb x 1 ≡ every (λ j. leb (get_or r j 0) 1) (k + 1)
+range-next r k greatest x f g =
+    rw (g, add-one, every-suc (λ j. leb (get_or r j 0) 1) k, ← f) (max-leb greatest (get_or r k 0) 1 (dec_le greatest 1) (dec_le (get_or r k 0) 1))
   where
     max-leb : (a b c : ℕ) → Dec (a ≤ c) → Dec (b ≤ c) → leb (max a b) c ≡ (leb a c && leb b c)
     max-leb a b c (yes p) (yes q) = rw (le-leb a c p, le-leb b c q) (le-leb (max a b) c (omega arith))
@@ -188,7 +194,7 @@ or_right : (a b : Bool) → (a ≡ false → b ≡ true) → (a || b) ≡ true
 or_right true b h = refl
 or_right false b h = h refl
 
-pass-facts : (end x f m : ℕ) → pass_rule end x f m ≡ true → Pass end x f m
+pub pass-facts : (end x f m : ℕ) → pass_rule end x f m ≡ true → Pass end x f m
 pass-facts end x f m e =
     let a = both _ _ e in
     let b = both _ _ a.0 in
@@ -202,7 +208,7 @@ pass-facts end x f m e =
       finished_next = λ p. eqb-true _ _ (one_of _ _ a.1 (ne_eqb f 0 (omega arith)));
     }
 
-pass-holds : (end x f m : ℕ) → Pass end x f m → pass_rule end x f m ≡ true
+pub pass-holds : (end x f m : ℕ) → Pass end x f m → pass_rule end x f m ≡ true
 pass-holds end x f m p =
     rw (le-leb 1 x p.next_low, le-leb x end p.next_high, le-leb f 1 p.finished_range, le-leb m (x - 1) p.tests_bound)
     (or_right (eqb f 0) (eqb x end) (λ g. eq-eqb x end (p.finished_next (omega (arith, p.finished_range, eqb-false f 0 g)))))

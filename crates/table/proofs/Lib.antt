@@ -5,3 +5,4 @@ pub mod WiringLaws
 pub mod StatusLaws
 pub mod Accepting
 pub mod CellLaws
+pub mod LineLaws

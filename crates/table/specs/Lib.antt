@@ -2,6 +2,7 @@
 pub mod Sizes
 pub mod Wiring
 pub mod Table
+pub mod Line
 pub mod Status
 pub mod Lent
 pub mod Rules

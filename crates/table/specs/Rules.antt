@@ -4,7 +4,7 @@ use Rattle.std.specs.Prelude.{ℕ, ◌-◌, Bool, not, ◌&&◌, ◌||◌, List,
 use Rattle.lists.specs.Search.{every}
 use Rattle.table.specs.Sizes.{is_size}
 use Rattle.table.specs.Wiring.{wiring_cube, wiring_check, end_distance}
-use Rattle.table.specs.Table.{table_length, status, status_told, next_distance, finished, tests_made, told_by, told_by_none, not_recorded, rounds_ago, suspects, live}
+use Rattle.table.specs.Table.{table_length, cell, status_column, status_told, next_column, finished_column, tests_column, finished, told_by_column, told_by_none, not_recorded, rounds_ago_column, suspects, live}
 use Rattle.lists.specs.declared.refusal.Refusal.TheVariants.{SizeOutOfRange, TableLength, LineRule, RoundNotClosed, NoSuchStation, ListLength}
 use Rattle.lists.specs.Refusal.{Check, ensure, ◌and◌, number_of_result}
 
@@ -32,15 +32,23 @@ exit_rule n i status by ago =
 abbrev pub suspicion_rule : ℕ → List ℕ → ℕ → ℕ → Bool
 suspicion_rule n t i k = nat_le (suspects n t i k) 1
 
--- Rule Own byte: the row keeps Row range, and its byte about station i itself is 0
+-- Rules Own byte and Row range, of the row of station i by its bytes: the byte about i itself is 0, and each is 0 or 1
+abbrev pub row_rule_by : ℕ → ℕ → (ℕ → ℕ) → Bool
+row_rule_by n i suspicion = suspicion i == 0 && every (λ k. nat_le (suspicion k) 1) n
+
+-- and of the row of line i of a table
 unfoldable pub row_rule : ℕ → List ℕ → ℕ → Bool
-row_rule n t i = suspects n t i i == 0 && every (suspicion_rule n t i) n
+row_rule n t i = row_rule_by n i (suspects n t i)
+
+-- the rules of bytes 0 to 5 of the line of station i, by its bytes
+abbrev pub head_rules_by : ℕ → ℕ → ℕ → (ℕ → ℕ) → Bool
+head_rules_by w n i byte =
+    status_rule (byte status_column) && pass_rule (end_distance w n) (byte next_column) (byte finished_column) (byte tests_column)
+    && exit_rule n i (byte status_column) (byte told_by_column) (byte rounds_ago_column)
 
 -- all line rules, of line i of a plant with wiring w
 unfoldable pub wired_line_rules : ℕ → ℕ → List ℕ → ℕ → Bool
-wired_line_rules w n t i =
-    status_rule (status n t i) && pass_rule (end_distance w n) (next_distance n t i) (finished n t i) (tests_made n t i)
-    && exit_rule n i (status n t i) (told_by n t i) (rounds_ago n t i) && row_rule n t i
+wired_line_rules w n t i = head_rules_by w n i (cell n t i) && row_rule n t i
 
 -- and on the cube
 abbrev pub line_rules : ℕ → List ℕ → ℕ → Bool

@@ -1,6 +1,6 @@
 -- The lent table: n lines of n + 6 bytes, in station order. A byte is read and written by line and column.
 -- Assumes nothing.
-use Rattle.std.specs.Prelude.{ℕ, ◌+◌, ◌*◌, Bool, List, ◌++◌, set, take, drop, ◌==◌, slice_index}
+use Rattle.std.specs.Prelude.{ℕ, ◌+◌, ◌*◌, Bool, List, [], ◌∷◌, ◌++◌, set, take, drop, ◌==◌, slice_index}
 
 -- how many bytes of a line stand before its row
 abbrev pub head : ℕ
@@ -111,3 +111,17 @@ row n t i = take n (drop (row_start n i) t)
 -- the table with r in place of the row of line i
 unfoldable pub set_row : ℕ → List ℕ → ℕ → List ℕ → List ℕ
 set_row n t i r = take (row_start n i) t ++ (r ++ drop n (drop (row_start n i) t))
+
+-- a byte of a line that a rule writes: its column, and what it becomes
+pub record Write : Type 0 where
+  pub column : ℕ
+  pub byte : ℕ
+
+infix 45 ◌becomes◌
+abbrev pub ◌becomes◌ : ℕ → ℕ → Write
+c becomes v = record { column = c; byte = v }
+
+-- bytes written one after the other, into line i of a table
+abbrev pub write_cells : ℕ → ℕ → List ℕ → List Write → List ℕ
+write_cells n i t [] = t
+write_cells n i t (w ∷ ws) = write_cells n i (set_cell n t i w.column w.byte) ws

@@ -11,7 +11,6 @@ ghost use Rattle.table.specs.Rules.{shape_check, table_check, table_check_on, nu
 use crate::status::Status;
 use crate::wiring::Wiring;
 use crate::{Distance, Station, cells, rules};
-use lists::bytes;
 use lists::refusal::Refusal;
 
 // A table of n stations, to be read.
@@ -177,21 +176,13 @@ impl<'a> Table<'a> {
         &self.bytes[a..e]
     }
 
-    // Whether the row of station i keeps its rules: the station's byte about itself, and every byte, by the greatest one. The loop has no exit, so
-    // that the compiler takes many bytes at a time.
-    #[tactic(auto, using(lists::proofs::Loops::loops, crate::proofs::CellLaws::row_at), unfolding(crate::specs::Rules::row_rule))]
+    // Whether the row of station i keeps its rules.
+    #[tactic(auto, using(crate::proofs::CellLaws::row_rule_of_row))]
     pub fn keeps_row_rule(&self, i: Station) -> bool
         requires { i.0 < self.now.n }
         ensures { result ≡ row_rule self.now.n self.now.bytes.now i.0 }
     {
-        let row = self.row(i);
-        let of = i.0 as usize;
-        let own = row[of];
-        let mut greatest: u8 = 0;
-        for byte in row {
-            greatest = bytes::greater(greatest, *byte);
-        }
-        (own == 0) & (greatest <= 1)
+        rules::keeps_row_rule(self.row(i), i)
     }
 }
 

@@ -1,15 +1,16 @@
 // The line rules and the check of a table: refusals 1 to 4.
 // Within a line bools are joined by `&` and `|`, which make no branch; an `if` stands where a branch is faster.
-ghost use Rattle.std.specs.Prelude.{◌≡◌, ◌<◌};
+ghost use Rattle.std.specs.Prelude.{◌≡◌, ◌<◌, length, slice_index};
 ghost use Rattle.lists.specs.Search.{every};
 ghost use Rattle.table.specs.Status.{status_byte};
 ghost use Rattle.table.specs.Wiring.{wiring_number};
-ghost use Rattle.table.specs.Rules.{pass_rule, exit_rule, wired_line_rules, shape_check, table_check};
+ghost use Rattle.table.specs.Rules.{pass_rule, exit_rule, row_rule_by, wired_line_rules, shape_check, table_check};
 
 use crate::lent::Table;
 use crate::status::Status;
 use crate::wiring::Wiring;
 use crate::{Station, cells, sizes};
+use lists::bytes;
 use lists::refusal::Refusal;
 
 // Refusals 1 and 2.
@@ -92,4 +93,20 @@ pub fn exit_rule(n: u8, i: Station, status: Status, by: u8, ago: u8) -> bool
         return (status != Status::LeftTold) & ((status != Status::Live) | (ago == 0));
     }
     (status == Status::LeftTold) & ((by == cells::NOT_RECORDED) | ((by < n) & (by != i.0)))
+}
+
+// Whether the row of station i keeps its rules: the byte about i itself, and every byte, by the greatest one. The loop has no exit, so that the
+// compiler takes many bytes at a time.
+#[tactic(auto, using(lists::proofs::Loops::loops))]
+pub fn keeps_row_rule(row: &[u8], i: Station) -> bool
+    requires { i.0 < length row.now }
+    ensures { result ≡ row_rule_by (length row.now) i.0 (slice_index row.now) }
+{
+    let of = i.0 as usize;
+    let own = row[of];
+    let mut greatest: u8 = 0;
+    for byte in row {
+        greatest = bytes::greater(greatest, *byte);
+    }
+    (own == 0) & (greatest <= 1)
 }

@@ -13,8 +13,8 @@ use Rattle.lists.specs.declared.refusal.Refusal.{Refusal}
 use Rattle.lists.specs.Refusal.{refusal_words}
 use Rattle.table.specs.declared.status.Status.{Status}
 use Rattle.table.specs.Status.{status_words}
-use Rattle.plant.specs.declared.outcome.Outcome.{Outcome}
-use Rattle.plant.specs.Outcome.{outcome_words}
+use Rattle.station.specs.declared.outcome.Outcome.{Outcome}
+use Rattle.station.specs.Outcome.{outcome_words}
 use Rattle.vcube.specs.Exports.{words_length}
 
 -- whether the words of a refusal fit

@@ -11,7 +11,7 @@ use Rattle.lists.specs.declared.refusal.Refusal.{Refusal}
 use Rattle.lists.specs.Refusal.{Check, ◌and◌, number_of, number_of_result, unless_refused, refusal_words, refusal_with}
 use Rattle.table.specs.Rules.{length_check}
 use Rattle.table.specs.Status.{status_of, status_words}
-use Rattle.plant.specs.Outcome.{outcome_with, outcome_words}
+use Rattle.station.specs.Outcome.{outcome_with, outcome_words}
 use Rattle.slots.specs.Board.{slot_answer}
 use Rattle.slots.specs.declared.board.Slot.{Slot}
 use Rattle.latency.specs.Wait.{wait_answer}

@@ -45,7 +45,7 @@ use latency::wait::{self, Wait};
 use lists::bytes;
 use lists::refusal::{Refusal, number_of, parts};
 use plant::Tally;
-use plant::outcome::Outcome;
+use station::outcome::Outcome;
 use saved::{Loaded, convert, load, save};
 use slots::board::{self, Slot};
 use station::{due, groups, rows};

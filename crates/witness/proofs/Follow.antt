@@ -22,7 +22,8 @@ use Rattle.table.proofs.SizeLaws.{size-distances}
 use Rattle.station.specs.Groups.{station_at}
 use Rattle.station.specs.Wired.{wired_due}
 use Rattle.station.specs.Tests.{due}
-use Rattle.plant.specs.Turn.{kind_turn, next_test, makes_test, next_after, outcome_at, turn}
+use Rattle.plant.specs.Turn.{kind_turn, next_test, makes_test, outcome_at, turn}
+use Rattle.station.specs.Wired.{next_after}
 use Rattle.plant.proofs.NextTest.{cube-next, next_test-low, not-due-before, test_below, test-due, none-due}
 use Rattle.plant.proofs.TurnHeads.{Heads, turn-heads}
 use Rattle.plant.specs.Round.{reset_lines, after_round}

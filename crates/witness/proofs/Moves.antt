@@ -21,7 +21,9 @@ use Rattle.station.specs.Groups.{station_at}
 use Rattle.station.specs.Wired.{wired_station}
 use Rattle.station.specs.Tests.{unsuspected, due}
 use Rattle.station.proofs.DueLaws.{unsuspected-at, unsuspected-absent, due-first, due-absent}
-use Rattle.plant.specs.Turn.{kind_turn, next_test, makes_test, next_after, count_test, exchange_rows, suspect, outcome_exchanged, outcome_no_reply, after_outcome, after_test, outcome_at, testing, turn}
+use Rattle.plant.specs.Turn.{kind_turn, next_test, makes_test, count_test, exchange_rows, suspect, after_outcome, after_test, outcome_at, testing, turn}
+use Rattle.station.specs.Outcome.{outcome_exchanged, outcome_no_reply}
+use Rattle.station.specs.Wired.{next_after}
 use Rattle.plant.proofs.StepCells.{finish_pass-other, count_test-other, count_test-length, suspect-same, suspect-other, exchange-other, exchange-tester, exchange-tested, exchange-tester-own, exchange-tested-own}
 use Rattle.station.proofs.WiredLaws.{station-apart}
 use Rattle.plant.proofs.StepLines.{count_test-lines}

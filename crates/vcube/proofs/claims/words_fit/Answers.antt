@@ -1,7 +1,7 @@
 -- The claim is proved in proofs/Fitting.antt.
 use Rattle.lists.specs.Refusal.{refusal_with}
 use Rattle.table.specs.Status.{status_of}
-use Rattle.plant.specs.Outcome.{outcome_with}
+use Rattle.station.specs.Outcome.{outcome_with}
 use Rattle.vcube.proofs.Fitting.{some-refusal-fits, some-status-fits, some-outcome-fits}
 use Rattle.vcube.proofs.claims.words_fit.Goals as goal
 

@@ -2,9 +2,31 @@
 -- Assumes nothing.
 use Rattle.std.specs.Prelude.{ℕ, List, codes, Option, None, Some, if◌then◌else◌, ◌==◌}
 use Rattle.table.specs.declared.Station.{Station}
-use Rattle.plant.specs.declared.outcome.Outcome.{Outcome}
-use Rattle.plant.specs.declared.outcome.Outcome.TheVariants.{PassFinished, Exchanged, Told, NoReply, Crashed, TestedTold}
-use Rattle.plant.specs.Turn.{outcome_finished, outcome_exchanged, outcome_told, outcome_no_reply, outcome_crash, outcome_tested_told, no_station}
+use Rattle.station.specs.declared.outcome.Outcome.{Outcome}
+use Rattle.station.specs.declared.outcome.Outcome.TheVariants.{PassFinished, Exchanged, Told, NoReply, Crashed, TestedTold}
+
+-- Rule Outcomes: on the run sheet 0 is pass finished, 1 exchanged, 2 tester told, 3 no reply, 4 crash, 5 tested told
+abbrev pub outcome_finished : ℕ
+outcome_finished = 0
+
+abbrev pub outcome_exchanged : ℕ
+outcome_exchanged = 1
+
+abbrev pub outcome_told : ℕ
+outcome_told = 2
+
+abbrev pub outcome_no_reply : ℕ
+outcome_no_reply = 3
+
+abbrev pub outcome_crash : ℕ
+outcome_crash = 4
+
+abbrev pub outcome_tested_told : ℕ
+outcome_tested_told = 5
+
+-- what the sheet has for the tested station where there is none
+abbrev pub no_station : ℕ
+no_station = 255
 
 -- byte 2 of a line of the run sheet: the outcome's number, 0 to 5
 abbrev pub outcome_byte : Outcome → ℕ

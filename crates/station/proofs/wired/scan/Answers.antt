@@ -6,7 +6,7 @@ use Rattle.station.specs.Tests.{says_due, due}
 use Rattle.lists.proofs.SearchLaws.{least-is, least-none}
 use Rattle.station.proofs.DueLaws.{due-absent, due-is}
 use Rattle.station.proofs.AheadLaws.{block-low, none-due-in-block}
-use Rattle.plant.proofs.steps.scan.Goals as goal
+use Rattle.station.proofs.wired.scan.Goals as goal
 
 pub loop-m-init : goal.loop-m-init
 loop-m-init c = record { begun = omega arith; passed = λ y l h. absurd (omega arith) }

@@ -1,12 +1,12 @@
 // What an entry did, as a value and as the two bytes of a line of the run sheet.
 ghost use Rattle.std.specs.Prelude.{◌≡◌};
-ghost use Rattle.plant.specs.Outcome.{tested_byte, outcome_byte, outcome_words, outcome_with};
+ghost use Rattle.station.specs.Outcome.{tested_byte, outcome_byte, outcome_words, outcome_with};
 
 use std::fmt;
 use table::Station;
 
 // What an entry did, with the tested station where it made a test. The order is that of the outcomes' numbers, so that the number costs
-// nothing: with an enum of its own for the tests the runs of tests/bench went at 0.82 to 0.99 times their speed.
+// nothing: with an enum of its own for the tests runs are slower.
 #[derive(Clone, Copy)]
 pub enum Outcome {
     // No distance was due: the pass is finished.
@@ -85,7 +85,7 @@ impl Outcome {
 // What an outcome says to people.
 impl fmt::Display for Outcome {
     ghost use Rattle.std.specs.Prelude.{Some};
-    ghost use Rattle.plant.specs.Outcome.{outcome_words};
+    ghost use Rattle.station.specs.Outcome.{outcome_words};
 
     ghost output = { λ outcome. Some (outcome_words outcome) };
 

@@ -1,7 +1,7 @@
 -- The distances passed so far are not due.
 use Rattle.std.proofs.Common.{◌≡◌, ℕ, ◌-◌, ◌≤◌, ◌<◌, false}
 use Rattle.station.specs.Tests.{due}
-use Rattle.plant.proofs.steps.scan.Given as goal
+use Rattle.station.proofs.wired.scan.Given as goal
 
 abbrev pub invariant-loop-m : goal.invariant-loop-m
 invariant-loop-m l = record {

@@ -1,0 +1,119 @@
+// What a turn goes by, computed once for a run and handed on by value: the wiring, the size, and the end distance of both. So no turn computes the
+// end distance again.
+ghost use Rattle.std.specs.Prelude.{◌≡◌, ◌-◌, true};
+ghost use Rattle.lists.specs.Search.{least};
+ghost use Rattle.table.specs.Sizes.{is_size};
+ghost use Rattle.table.specs.Wiring.{wiring_number, end_distance};
+ghost use Rattle.station.specs.Tests.{due};
+
+use crate::outcome::Outcome;
+use crate::{DueOrAhead, due, order};
+use table::wiring::Wiring;
+use table::{Distance, Station};
+
+// A wiring of a plant of n stations.
+#[derive(Clone, Copy)]
+pub struct Wired {
+    pub wiring: Wiring,
+    pub n: u8,
+    pub end: u8,
+    ghost sized: { is_size n ≡ true },
+    ghost last_of_pass: { end ≡ end_distance (wiring_number wiring) n },
+}
+
+impl Wired {
+    ghost use Rattle.std.specs.Prelude.{◌+◌, ◌%◌, ◌<◌};
+    ghost use Rattle.station.specs.Wired.{wired_station, next_due, next_after};
+    ghost use Rattle.station.specs.Outcome.{outcome_byte};
+
+    // The wiring of n stations.
+    #[tactic(auto, using(table::proofs::SizeLaws::size_top, table::proofs::WiringLaws::end_top))]
+    pub fn new(wiring: Wiring, n: u8) -> Wired
+        requires { is_size n ≡ true }
+        ensures same_wiring { result.wiring ≡ wiring }
+        ensures same_size { result.n ≡ n }
+    {
+        let end = wiring.end_distance(n) as u8;
+        Wired { wiring, n, end }
+    }
+
+    // The station at distance m from i.
+    #[tactic(auto, using(table::proofs::SizeLaws::size_top, table::proofs::WiringLaws::end_top, table::proofs::WiringLaws::end_ring), unfolding(crate::specs::Wired::wired_station))]
+    pub fn station_at(self, i: Station, m: Distance) -> Station
+        requires station { i.0 < self.n }
+        requires distance { m.0 < self.end }
+        ensures { result.0 ≡ wired_station (wiring_number self.wiring) self.n i.0 m.0 }
+    {
+        match self.wiring {
+            Wiring::Cube => order::station_at(i, m),
+            Wiring::Ring => {
+                let at = i.0 + m.0;
+                self.place(at)
+            }
+        }
+    }
+
+    // The station at a place of the ring, where behind n − 1 comes 0.
+    #[tactic(auto, using(table::proofs::SizeLaws::size_top, crate::proofs::WiredLaws::place_before, crate::proofs::WiredLaws::place_behind))]
+    fn place(self, at: u8) -> Station
+        requires { at < self.n + self.n }
+        ensures { result.0 ≡ at % self.n }
+    {
+        if at < self.n {
+            Station(at)
+        } else {
+            Station(at - self.n)
+        }
+    }
+
+    // The distance of the next test of i, by its row and its next distance: the least one from there on at which it is to test; the end distance
+    // where there is none.
+    pub fn next_due(self, row: &[u8], i: Station, next: Distance) -> Distance
+        ensures { let w = wiring_number self.wiring in
+            result.0 ≡ next_due w self.n row.now i.0 next.0 }
+    {
+        match self.wiring {
+            Wiring::Cube => scan(row, i, self.end, next),
+            Wiring::Ring => next,
+        }
+    }
+
+    // The next distance after a test at distance m, by its outcome.
+    #[tactic(auto, unfolding(crate::specs::Wired::next_after))]
+    pub fn next_after(self, m: Distance, outcome: Outcome) -> u8
+        requires { m.0 < 255 }
+        ensures { let w = wiring_number self.wiring in
+            result ≡ next_after w self.n m.0 (outcome_byte outcome) }
+    {
+        match self.wiring {
+            Wiring::Cube => m.0 + 1,
+            Wiring::Ring => match outcome {
+                Outcome::Exchanged(_) => self.n,
+                _ => m.0 + 1,
+            },
+        }
+    }
+}
+
+// The least distance from `from` on, and below `end`, that is due for i by its row; `end`, or `from` if that is greater, where there is none.
+// Where the answer is not "due", no distance of the block that begins there is due, and the scan goes on behind it.
+fn scan(row: &[u8], i: Station, end: u8, from: Distance) -> Distance
+    ensures { result.0 ≡ least (due row.now i.0) (end - from.0) from.0 }
+{
+    let mut m = from.0 as u16;
+    while m < end as u16 {
+        let at = Distance(m as u8);
+        if !due::stands(row, i, at) {
+            m += 1;
+            continue;
+        }
+        let answer = due::due_or_ahead(row, i, at);
+        let DueOrAhead::Due = answer else {
+            let last = due::block_end(at);
+            m = last.0 as u16 + 1;
+            continue;
+        };
+        return at;
+    }
+    Distance(end.max(from.0))
+}
