@@ -2,21 +2,25 @@
 -- Assumes nothing.
 use mathlib.Core.Path.{◌≡◌, sym, ap, ◌∙◌}
 use mathlib.Core.Logic.{◌≢◌}
+use mathlib.Core.Bool.{◌||◌}
 use mathlib.Core.List.{List, ◌++◌}
 use Prim.Native.Nat.{ℕ, ◌+◌, ◌-◌, max, ◌≤◌, ◌<◌}
 use native.Mathlib.Decide.{ℕ_discrete}
 use native.Mathlib.Nat.{max_comm, max-eq_left, le_refl}
 use native.Mathlib.Omega.{arith}
+use lib.Dec.{eqb}
 use lib.ListN.{length, get_or, take, drop, take-append-drop}
 use lib.Seq.{take_at, ext_get_or}
 use Rattle.table.specs.Table.{head, table_length, row_start, row, set_row}
-use Rattle.station.specs.Rows.{union_byte, union}
+use Rattle.station.specs.Rows.{union_byte, union, suspects_all}
+use Rattle.lists.specs.Search.{every}
+use Rattle.lists.proofs.BoolLaws.{every-same}
 use Rattle.lists.proofs.SearchLaws.{list_of-same}
-use Rattle.table.proofs.CellLaws.{row-length, row_same, set_row-length, set_row-out}
+use Rattle.table.proofs.CellLaws.{row-length, row_at, row_same, set_row-length, set_row-out}
 use Rattle.station.proofs.UnionLaws.{union-length, union-at, union-own, union-others}
 use Rattle.lists.specs.Bytes.{joined_byte, joined_bytes, with_joined}
 use Rattle.lists.proofs.ByteLaws.{joined_length, joined_at, into-fits}
-use Rattle.plant.specs.Turn.{exchange_rows}
+use Rattle.plant.specs.Turn.{exchange_rows, self_or_suspected}
 
 -- the table with the row as it comes back
 pub row_back : (n : ℕ) (t : List ℕ) (i a : ℕ) (r : List ℕ) → a ≡ row_start n i → take a t ++ (r ++ drop (a + n - a) (drop a t)) ≡ set_row n t i r
@@ -76,3 +80,10 @@ exchange-is n t i j long hi hj apart o x t₁ t₂ room eo e₁ e₂ =
     let w : row n t₁ j ≡ rj = ap (λ (l : List ℕ). row n l j) s ∙ w in
     let v : union rj (take n o) j ≡ union rj ri j = union-twice rj ri (take n o) n j lj (λ k h. f k h ∙ max_comm (get_or ri k 0) (get_or rj k 0)) in
     e₂ ∙ rw (w, v, s)
+
+-- whether all others are suspected, by the row
+pub alone_by_row : (n : ℕ) (t r : List ℕ) (i : ℕ) → r ≡ row n t i → length r ≡ n
+    → suspects_all (λ k. get_or r k 0) i (length r) ≡ every (self_or_suspected n t i) n
+unfolding self_or_suspected
+alone_by_row n t r i e l =
+    rw (l, e) (every-same _ _ n (λ k h. ap (λ (a : ℕ). eqb k i || eqb a 1) (row_at n t i k h)))

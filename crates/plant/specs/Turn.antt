@@ -1,14 +1,14 @@
 -- A turn of one station and a crash, as functions of the table. w is the wiring's number, station i the entry's, kind its kind, j the tested
 -- station.
 -- Assumes nothing.
-use Rattle.std.specs.Prelude.{ℕ, Bool, ◌&&◌, ◌||◌, List, if◌then◌else◌, ◌==◌, nat_lt}
+use Rattle.std.specs.Prelude.{ℕ, Bool, ◌&&◌, List, if◌then◌else◌, ◌==◌, nat_lt}
 use Rattle.lists.specs.Search.{every}
 use Rattle.table.specs.Wiring.{end_distance}
 use Rattle.table.specs.Table.{write_cells, set_cell, status_column, next_distance, tests_made, suspects, live, row, set_row, status_alone, status_crashed}
 use Rattle.station.specs.Wired.{wired_station, next_due}
 use Rattle.station.specs.Outcome.{outcome_finished, outcome_no_reply, no_station}
 use Rattle.station.specs.Step.{told_writes, finish_writes, count_writes, outcome_by, by_outcome}
-use Rattle.station.specs.Rows.{union, mark}
+use Rattle.station.specs.Rows.{union, mark, self_or_suspected_by}
 
 -- Rule Kinds: 1 turn, 2 turn whose reply comes late, 3 crash
 abbrev pub kind_turn : ℕ
@@ -77,7 +77,7 @@ after_outcome n t i j outcome =
 
 -- Rule Alone, of one station k: i suspects it, or it is i itself
 unfoldable pub self_or_suspected : ℕ → List ℕ → ℕ → ℕ → Bool
-self_or_suspected n t i k = k == i || suspects n t i k == 1
+self_or_suspected n t i k = self_or_suspected_by (suspects n t i) i k
 
 -- Rule Alone, when: i is still live and suspects all others, live or not
 unfoldable pub is_alone : ℕ → List ℕ → ℕ → Bool

@@ -8,10 +8,10 @@ ghost use Rattle.station.specs.Outcome.{tested_byte, outcome_byte};
 ghost use Rattle.plant.specs.Entry.{state_with, entry_of, entry_known, entry_check, entry_refusal, shows_test, acted, after, tested_of, outcome_of, sheet_line};
 
 use crate::kind::Kind;
-use station::outcome::Outcome;
-use station::wired::Wired;
 use crate::{Tally, rounds, steps};
 use lists::refusal::Refusal;
+use station::outcome::Outcome;
+use station::wired::Wired;
 use table::lent::{Table, TableMut};
 use table::status::Status;
 use table::{Station, cells};

@@ -6,9 +6,9 @@ ghost use Rattle.table.specs.Wiring.{wiring_number};
 ghost use Rattle.plant.specs.Entry.{state_with};
 ghost use Rattle.plant.specs.Run.{entries, go_on, start_check, start_refusal, outcome_with, run};
 
-use station::wired::Wired;
 use crate::{Ran, Tally, entry};
 use lists::refusal::Refusal;
+use station::wired::Wired;
 use table::Station;
 use table::lent::{Table, TableMut};
 use table::wiring::Wiring;

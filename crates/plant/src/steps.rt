@@ -8,7 +8,7 @@ ghost use Rattle.station.specs.Rows.{union};
 ghost use Rattle.table.specs.Rules.{numbered_table_refusal};
 ghost use Rattle.plant.specs.Kind.{kind_byte};
 ghost use Rattle.station.specs.Outcome.{tested_byte, outcome_byte};
-ghost use Rattle.plant.specs.Turn.{next_test, finish_pass, count_test, replies, exchange_rows, suspect, leave_told, reply_outcome, test_outcome, after_outcome, self_or_suspected, is_alone, after_alone, outcome_at, testing, turn, turn_tested, turn_outcome};
+ghost use Rattle.plant.specs.Turn.{next_test, finish_pass, count_test, replies, exchange_rows, suspect, leave_told, reply_outcome, test_outcome, after_outcome, is_alone, after_alone, outcome_at, testing, turn, turn_tested, turn_outcome};
 
 use crate::kind::Kind;
 use lists::bytes;
@@ -244,8 +244,8 @@ fn leave_if_alone(table: &mut TableMut, i: Station)
     }
 }
 
-// Whether i is live and suspects all others. A loop with an exit is faster here than std's `all`.
-#[tactic(auto, using(lists::proofs::Loops::loops), unfolding(crate::specs::Turn::is_alone))]
+// Whether i is live and suspects all others.
+#[tactic(auto, using(crate::proofs::RowLaws::alone_by_row), unfolding(crate::specs::Turn::is_alone))]
 fn suspects_all(table: &Table, i: Station) -> bool
     requires { i.0 < table.now.n }
     ensures { result ≡ is_alone table.now.n table.now.bytes.now i.0 }
@@ -253,20 +253,5 @@ fn suspects_all(table: &Table, i: Station) -> bool
     if !table.is_live(i) {
         return false;
     }
-    for k in 0..table.n {
-        if !self_or_suspected(table, i, Station(k)) {
-            return false;
-        }
-    }
-    true
-}
-
-// Whether k is i or i suspects it.
-#[tactic(auto, unfolding(crate::specs::Turn::self_or_suspected))]
-fn self_or_suspected(table: &Table, i: Station, k: Station) -> bool
-    requires station_below { i.0 < table.now.n }
-    requires other_below { k.0 < table.now.n }
-    ensures { result ≡ self_or_suspected table.now.n table.now.bytes.now i.0 k.0 }
-{
-    (k == i) | table.suspects(i, k)
+    rows::suspects_all(table.row(i), i)
 }

@@ -1,7 +1,7 @@
 // Rows: handed back as a part of the lent table, joined and marked.
-ghost use Rattle.std.specs.Prelude.{◌≡◌, ◌+◌, ◌<◌, IfOk};
+ghost use Rattle.std.specs.Prelude.{◌≡◌, ◌+◌, ◌<◌, length, slice_index, IfOk};
 ghost use Rattle.std.specs.Result.{result_map_both};
-ghost use Rattle.station.specs.Rows.{union, mark};
+ghost use Rattle.station.specs.Rows.{union, mark, self_or_suspected_by, suspects_all};
 ghost use Rattle.table.specs.Rules.{station_check};
 ghost use Rattle.station.specs.Calls.{row_check, row_part, row_offset};
 
@@ -75,4 +75,25 @@ pub fn mark_row(row: &mut [u8], j: Station)
     ensures { row.new ≡ mark row.old j.0 }
 {
     bytes::put(row, j.0, 1);
+}
+
+// Whether the row suspects all stations but own. A loop with an exit is faster here than std's `all`.
+#[tactic(auto, using(lists::proofs::Loops::loops))]
+pub fn suspects_all(row: &[u8], own: Station) -> bool
+    ensures { result ≡ suspects_all (slice_index row.now) own.0 (length row.now) }
+{
+    for k in 0..row.len() {
+        if !self_or_suspected(row, own, k) {
+            return false;
+        }
+    }
+    true
+}
+
+// Whether k is own or the row suspects it.
+fn self_or_suspected(row: &[u8], own: Station, k: usize) -> bool
+    requires { k < length row.now }
+    ensures { result ≡ self_or_suspected_by (slice_index row.now) own.0 k }
+{
+    (k == own.0 as usize) | (row[k] == 1)
 }
