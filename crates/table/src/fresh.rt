@@ -34,9 +34,9 @@ fn write_fresh(table: &mut TableMut)
     }
 }
 
-// Byte p of a fresh table.
+// Byte p of a fresh table, or of a fresh line.
 #[tactic(auto, unfolding(crate::specs::Fresh::fresh_byte))]
-fn fresh_byte(n: u8, p: usize) -> u8
+pub fn fresh_byte(n: u8, p: usize) -> u8
     ensures { result ≡ fresh_byte n p }
 {
     let column = p % (n as usize + cells::HEAD as usize);

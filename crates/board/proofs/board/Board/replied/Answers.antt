@@ -1,0 +1,19 @@
+-- The station tested is one of the plant.
+use Rattle.std.proofs.Common.{arith}
+use Rattle.table.specs.Wiring.{wiring_number}
+use Rattle.board.proofs.NextLaws.{next-station}
+use Rattle.board.proofs.board.Board.replied.Goals as goal
+
+pub outcome_of-outcome-requires-clause-other : goal.outcome_of-outcome-requires-clause-other
+outcome_of-outcome-requires-clause-other c =
+    let b = c.args.self in
+    let m = c.next_test-m.ensures in
+    rw (c.station_at-j.ensures, m)
+    (next-station (wiring_number b.wiring) b.n b.own.0 c.args.line.now c.requires.fits b.below (omega (arith, m, b.last_of_pass, c.if-self-m.false)))
+
+pub close_test-requires-clause-other : goal.close_test-requires-clause-other
+close_test-requires-clause-other c =
+    let b = c.args.self in
+    let m = c.next_test-m.ensures in
+    rw (c.outcome_of-outcome.ensures.tested_station, c.station_at-j.ensures, m)
+    (next-station (wiring_number b.wiring) b.n b.own.0 c.args.line.now c.requires.fits b.below (omega (arith, m, b.last_of_pass, c.if-self-m.false)))

@@ -1,0 +1,58 @@
+-- That boards, each with its own line, together do what the table's turn does.
+-- Assumes nothing.
+use Rattle.std.specs.Prelude.{◌≡◌, ◌≢◌, ℕ, ◌<◌, List, length, Option, None, Some, if◌then◌else◌}
+use Rattle.table.specs.Table.{stride, table_length, row}
+use Rattle.table.specs.Rules.{numbered_table_refusal}
+use Rattle.station.specs.Rows.{union}
+use Rattle.plant.specs.Turn.{replies, turn, turn_tested, turn_outcome}
+use Rattle.plant.specs.Round.{reset_lines}
+use Rattle.table.specs.Line.{line, row_of, set_line}
+use Rattle.board.specs.Board.Message.{exchange}
+use Rattle.board.specs.Board.{tests, tested, turn_of, outcome, sent, received, round_closed}
+
+-- what station j answers to a test: its row, if it is live and the reply comes in time
+unfoldable pub answered : ℕ → List ℕ → ℕ → ℕ → Option (List ℕ)
+answered n t kind j = if replies n t kind j then Some (row n t j) else None
+
+-- what is answered in the turn of station i
+abbrev pub reply_to : ℕ → ℕ → List ℕ → ℕ → ℕ → Option (List ℕ)
+reply_to w n t kind i = answered n t kind (tested w n i (line n t i))
+
+-- Rule Boards: after a turn of station i line i is what board i makes of its own line and the reply; the line of the station tested is what that
+-- one makes of its own line and of what i sends; no other line changes; and the board's outcome and tested station are the turn's
+pub record SameTurn (w n : ℕ) (t : List ℕ) (kind i : ℕ) : Type 0 where
+  pub tested_station : turn_tested w n t i ≡ tested w n i (line n t i)
+  pub outcome_number : turn_outcome w n t kind i ≡ outcome w n i (line n t i) (reply_to w n t kind i)
+  pub tester : line n (turn w n t kind i) i ≡ turn_of w n i (line n t i) (reply_to w n t kind i)
+  pub tested_line : (j : ℕ) → j < n → j ≡ turn_tested w n t i
+      → line n (turn w n t kind i) j ≡ received n j i (line n t j) (sent w n i (line n t i) (reply_to w n t kind i))
+  pub others : (k : ℕ) → k < n → k ≢ i → k ≢ turn_tested w n t i → line n (turn w n t kind i) k ≡ line n t k
+
+-- on every table that refusals 24 and 1 to 4 let through, for every station and every kind
+abbrev pub BoardsDoTheTurn : Type 0
+BoardsDoTheTurn = (w n : ℕ) (t : List ℕ) (kind i : ℕ) → numbered_table_refusal w n t ≡ 0 → i < n → SameTurn w n t kind i
+
+-- Rule Boards, of a closing: each line of the closed table is what its board makes of it
+abbrev pub BoardsCloseTheRound : Type 0
+BoardsCloseTheRound =
+    (n : ℕ) (t : List ℕ) → length t ≡ table_length n → (k : ℕ) → k < n → line n (reset_lines n t) k ≡ round_closed (line n t k)
+
+-- the same as one equation, by which plant's turn could be defined: the line of the tester and that of the station tested are written, each as its
+-- board makes it
+unfoldable pub turn_by_lines : ℕ → ℕ → List ℕ → ℕ → ℕ → List ℕ
+turn_by_lines w n t kind i =
+    let l = line n t i in
+    let j = tested w n i l in
+    let reply = reply_to w n t kind i in
+    let mine = set_line n t i (turn_of w n i l reply) in
+    if tests w n i l then set_line n mine j (received n j i (line n t j) (sent w n i l reply)) else mine
+
+abbrev pub TurnIsByLines : Type 0
+TurnIsByLines =
+    (w n : ℕ) (t : List ℕ) (kind i : ℕ) → numbered_table_refusal w n t ≡ 0 → i < n → turn w n t kind i ≡ turn_by_lines w n t kind i
+
+-- Rule Exchange, of what is sent: the row that the tester has after joining serves as well as the one that it had at the test
+abbrev pub EitherRowServes : Type 0
+EitherRowServes =
+    (n i j : ℕ) (l mine : List ℕ) → length l ≡ stride n → length mine ≡ n
+    → received n j i l (exchange (union mine (row_of n l) i)) ≡ received n j i l (exchange mine)
