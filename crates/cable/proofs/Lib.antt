@@ -1,6 +1,9 @@
--- The laws of a turn and of a closing by lines, which the crates above cite too, and of n boards on one cable.
+-- The laws of a turn, of a closing and of rows by lines, which the crates above cite too, and of n boards on one cable.
 pub mod TurnByLines
+pub mod OneEquation
 pub mod ClosingByLines
+pub mod RowsSent
 pub mod LineFacts
+pub mod FreshLines
 pub mod HoldLaws
 pub mod TableOf

@@ -41,28 +41,31 @@ pub place-ok : (w n i len : ℕ) → wiring_check w ≡ Ok tt → is_size n ≡ 
 unfolding place_check
 place-ok w n i len wired size h e = rw (wired, size, lt-ltb i n h, eq-eqb len (stride n) e)
 
--- what is known of a line that is let through
-pub record LetThrough (w n i : ℕ) (l : List ℕ) : Type 0 where
+-- what is known of a board's number and a length that are let through, and of a line that is
+pub record Place (w n i len : ℕ) : Type 0 where
   pub wired : wiring_check w ≡ Ok tt
   pub size : is_size n ≡ true
   pub below : i < n
-  pub long : length l ≡ stride n
-  pub rules : line_rules w n i l ≡ true
+  pub long : len ≡ stride n
 
-pub let-through : (w n i : ℕ) (l : List ℕ) → line_check w n i l ≡ Ok tt → LetThrough w n i l
-unfolding line_check place_check
-let-through w n i l e =
-    let o = and_ok _ _ tt e in
-    let p = and_ok _ _ tt o.0 in
+pub place : (w n i len : ℕ) → place_check w n i len ≡ Ok tt → Place w n i len
+unfolding place_check
+place w n i len e =
+    let p = and_ok _ _ tt e in
     let q = and_ok _ _ tt p.1 in
     let r = and_ok _ _ tt q.1 in
     record {
       wired = p.0;
       size = ensure_ok _ _ _ q.0;
       below = ltb-true i n (ensure_ok _ _ _ r.0);
-      long = eqb-true (length l) (stride n) (ensure_ok _ _ _ r.1);
-      rules = ensure_ok _ _ _ o.1;
+      long = eqb-true len (stride n) (ensure_ok _ _ _ r.1);
     }
+
+pub let-through : (w n i : ℕ) (l : List ℕ) → line_check w n i l ≡ Ok tt → Place w n i (length l) × (line_rules w n i l ≡ true)
+unfolding line_check
+let-through w n i l e =
+    let p = and_ok _ _ tt e in
+    (place w n i (length l) p.0, ensure_ok _ _ _ p.1)
 
 -- a line that keeps the rules, of a table whose round may be over
 pub line-ok : (w n : ℕ) (t : List ℕ) (i : ℕ) → wiring_check w ≡ Ok tt → is_size n ≡ true → length t ≡ table_length n → i < n

@@ -16,9 +16,9 @@ use Rattle.table.proofs.Accepting.{Accepted}
 use Rattle.table.proofs.CellLaws.{line-inside}
 use Rattle.table.proofs.LineLaws.{line_is}
 use Rattle.plant.proofs.RunLaws.{accepted-number}
-use Rattle.board.specs.Calls.{line_check}
+use Rattle.board.specs.Calls.{line_rules, line_check}
 use Rattle.cable.specs.Boards.{Lines, all_finished, Hold, table_of, BoardsMakeATable}
-use Rattle.cable.proofs.LineFacts.{rules-same, LetThrough, let-through}
+use Rattle.cable.proofs.LineFacts.{rules-same, Place, let-through}
 use Rattle.cable.proofs.HoldLaws.{held, holds, over-same}
 
 module _ (n : ℕ) (b : Lines) where
@@ -41,21 +41,21 @@ module _ (n : ℕ) (b : Lines) where
 pub boards-make-a-table : BoardsMakeATable
 boards-make-a-table w n b some through going =
     (accepted-number w n t (record {
-      wired = (facts 0 some).wired;
-      size = (facts 0 some).size;
+      wired = (facts 0 some).0.wired;
+      size = (facts 0 some).0.size;
       long = table-length n b;
-      lines = every-all (wired_line_rules w n t) n (λ k hk. sym (rules-same w n t k hk) ∙ rw (same k hk) (facts k hk).rules);
+      lines = every-all (wired_line_rules w n t) n (λ k hk. sym (rules-same w n t k hk) ∙ rw (same k hk) (facts k hk).1);
       unclosed = sym (over-same n t b hold) ∙ going;
     }), hold)
   where
     t : List ℕ
     t = table_of n b
 
-    facts : (k : ℕ) → k < n → LetThrough w n k (b k)
+    facts : (k : ℕ) → k < n → Place w n k (length (b k)) × (line_rules w n k (b k) ≡ true)
     facts k hk = let-through w n k (b k) (through k hk)
 
     same : (k : ℕ) → k < n → line n t k ≡ b k
-    same k hk = table-line n b k hk (facts k hk).long
+    same k hk = table-line n b k hk (facts k hk).0.long
 
     hold : Hold n t b
     hold = holds n t b (λ k hk. held n t k (b k) (sym (same k hk)))

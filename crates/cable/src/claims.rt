@@ -1,19 +1,44 @@
-// What is claimed of boards that each hold their own line (specs/Claims.antt and specs/Boards.antt), each the contract of a function that does nothing.
+// What is claimed of n boards, each with its own line (specs/Claims.antt, specs/Boards.antt), each the contract of a function that does nothing.
 
 ghost use Rattle.cable.specs.Claims.{BoardsDoTheTurn, TurnIsByLines, BoardsCloseTheRound, EitherRowServes, RowsTravel, LinesOfTables, FreshBoards};
 ghost use Rattle.cable.specs.Boards.{BoardsDoTheRun, BoardsMakeATable};
 
-// Each part of a turn of the table is what the boards make of their own lines.
+// Two boards do what the table's turn does, each by its own line.
 pub fn boards_do_the_turn()
     ensures { BoardsDoTheTurn }
 {}
 
-// Each line of a closed table is what its board makes of it.
+// The same as one equation.
+pub fn turn_is_by_lines()
+    ensures { TurnIsByLines }
+{}
+
+// And all boards what a closing of the round does.
 pub fn boards_close_the_round()
     ensures { BoardsCloseTheRound }
 {}
 
-// Lines that are let through make a table.
+// A tester may send its row as it is after joining.
+pub fn either_row_serves()
+    ensures { EitherRowServes }
+{}
+
+// A row, packed and heard, is as it was.
+pub fn rows_travel()
+    ensures { RowsTravel }
+{}
+
+// Each line of a table that is let through is let through by the calls of its board.
+pub fn lines_of_tables()
+    ensures { LinesOfTables }
+{}
+
+// Fresh boards hold the lines of the fresh table.
+pub fn fresh_boards()
+    ensures { FreshBoards }
+{}
+
+// Boards whose lines are let through make a table that is.
 pub fn boards_make_a_table()
     ensures { BoardsMakeATable }
 {}
