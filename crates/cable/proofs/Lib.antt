@@ -7,3 +7,6 @@ pub mod LineFacts
 pub mod FreshLines
 pub mod HoldLaws
 pub mod TableOf
+pub mod ExchangeLine
+pub mod CallsOnCable
+pub mod RunByCalls

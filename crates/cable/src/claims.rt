@@ -42,3 +42,8 @@ pub fn fresh_boards()
 pub fn boards_make_a_table()
     ensures { BoardsMakeATable }
 {}
+
+// n boards, each by its calls alone, do what a run does on the table.
+pub fn boards_do_the_run()
+    ensures { BoardsDoTheRun }
+{}
