@@ -58,7 +58,7 @@ module _ (w n : ℕ) (t : List ℕ) (b : Lines) (hold : Hold n t b) (z : numbere
   mine = hold.live_lines i h alive
 
   -- whom the call names is whom the table's turn tests
-  names : tested_by w n b i ≡ turn_tested w n t i
+  pub names : tested_by w n b i ≡ turn_tested w n t i
   names =
       by_bool (makes_test w n t i)
       (λ m. rw (mine, asks w n t kind i z h alive going m) refl)
@@ -114,7 +114,7 @@ module _ (w n : ℕ) (t : List ℕ) (b : Lines) (hold : Hold n t b) (z : numbere
       (held n u k _ (exchanged-leaves w n t kind i z h alive going k hk e x)))
       (λ c. rw (a, c) (quiet k hk ni (λ _. (eqb-false o outcome_tested_told a, eqb-false o outcome_exchanged c)))))
 
-  turned : Hold n u (after_turn w n b kind i)
+  pub turned : Hold n u (after_turn w n b kind i)
   unfolding after_turn
   turned = holds n u (after_turn w n b kind i) (λ k hk. at k hk (ℕ_discrete k i) (ℕ_discrete k (tested_by w n b i)))
     where
@@ -126,7 +126,7 @@ module _ (w n : ℕ) (t : List ℕ) (b : Lines) (hold : Hold n t b) (z : numbere
           rw (ne_eqb k i ni, eq-eqb k (tested_by w n b i) e, tester-leaves, tester-answers) (sent-to k hk ni (e ∙ names))
 
 -- a crash of a live board
-crashed : (n : ℕ) (t : List ℕ) (b : Lines) → Hold n t b → length t ≡ table_length n → (i : ℕ) → i < n → live n t i ≡ true
+pub crashed : (n : ℕ) (t : List ℕ) (b : Lines) → Hold n t b → length t ≡ table_length n → (i : ℕ) → i < n → live n t i ≡ true
     → Hold n (crash n t i) (after_crash b i)
 unfolding crash after_crash
 crashed n t b hold long i h alive = holds n (crash n t i) (after_crash b i) (λ k hk. at k hk (ℕ_discrete k i))
@@ -156,7 +156,7 @@ closed-status : (c : Check) (l : List ℕ) → get_or (unless_refused c l (round
 closed-status (Ok x) l = same-status l
 closed-status (Err r) l = refl
 
-closing : (w n : ℕ) (t : List ℕ) (b : Lines) → Hold n t b → wiring_check w ≡ Ok tt → is_size n ≡ true → length t ≡ table_length n
+pub closing : (w n : ℕ) (t : List ℕ) (b : Lines) → Hold n t b → wiring_check w ≡ Ok tt → is_size n ≡ true → length t ≡ table_length n
     → ((k : ℕ) → k < n → Line w n t k) → Hold n (after_round n t) (after_closing w n b)
 unfolding after_round after_closing
 closing w n t b hold wired size long lines = by_bool (round_over n t) (λ o. rw (over-same n t b hold, o) closed) (λ o. rw (over-same n t b hold, o) hold)
@@ -180,21 +180,21 @@ module _ (w n : ℕ) (s : State) (b : Lines) (hold : Hold n s.table b) (e : Entr
   z : numbered_table_refusal w n s.table ≡ 0
   z = accepted-number w n s.table a
 
-  acting : Hold n (acted w n s.table e) (after_act w n b e)
+  pub acting : Hold n (acted w n s.table e) (after_act w n b e)
   unfolding acted after_act
   acting =
       by_bool (is_crash e)
       (λ c. rw c (crashed n s.table b hold a.long e.station takes.below takes.is_live))
       (λ c. rw c (turned w n s.table b hold z e.kind e.station takes.below takes.is_live (takes.unfinished (eqb-false e.kind 3 c))))
 
-  entry-held : Hold n (after w n s e).table (after_entry w n b e)
+  pub entry-held : Hold n (after w n s e).table (after_entry w n b e)
   unfolding after after_entry
   entry-held =
       let lines = acted-lines w n s e a taken in
       closing w n (acted w n s.table e) (after_act w n b e) acting a.wired a.size lines.0 lines.1
 
   -- and its line of the sheet
-  entry-shown : sheet_line w n s e ≡ entry_line w n b e
+  pub entry-shown : sheet_line w n s e ≡ entry_line w n b e
   unfolding sheet_line entry_line tested_of entry_outcome
   entry-shown =
       let i : ℕ = e.station in
