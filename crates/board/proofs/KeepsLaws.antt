@@ -454,12 +454,6 @@ fresh-good w n i len e =
     let q = and_ok _ _ tt p.1 in
     let r = and_ok _ _ tt q.1 in
     let below : i < n = ltb-true i n (ensure_ok _ _ _ r.0) in
-    let status : get_or (fresh_line n) status_column 0 ≡ 0 = fresh-at n status_column 0 (omega arith) refl in
-    let next : get_or (fresh_line n) next_column 0 ≡ 1 = fresh-at n next_column 1 (omega arith) refl in
-    let done : get_or (fresh_line n) finished_column 0 ≡ 0 = fresh-at n finished_column 0 (omega arith) refl in
-    let tests : get_or (fresh_line n) tests_column 0 ≡ 0 = fresh-at n tests_column 0 (omega arith) refl in
-    let by : get_or (fresh_line n) told_by_column 0 ≡ told_by_none = fresh-at n told_by_column told_by_none (omega arith) refl in
-    let ago : get_or (fresh_line n) rounds_ago_column 0 ≡ 0 = fresh-at n rounds_ago_column 0 (omega arith) refl in
     record {
       wired = p.0;
       size = ensure_ok _ _ _ q.0;
@@ -473,6 +467,24 @@ fresh-good w n i len e =
       own = fresh-row n i below;
       range = λ k h. omega (arith, fresh-row n k h);
     }
+  where
+    status : get_or (fresh_line n) status_column 0 ≡ 0
+    status = fresh-at n status_column 0 (omega arith) refl
+
+    next : get_or (fresh_line n) next_column 0 ≡ 1
+    next = fresh-at n next_column 1 (omega arith) refl
+
+    done : get_or (fresh_line n) finished_column 0 ≡ 0
+    done = fresh-at n finished_column 0 (omega arith) refl
+
+    tests : get_or (fresh_line n) tests_column 0 ≡ 0
+    tests = fresh-at n tests_column 0 (omega arith) refl
+
+    by : get_or (fresh_line n) told_by_column 0 ≡ told_by_none
+    by = fresh-at n told_by_column told_by_none (omega arith) refl
+
+    ago : get_or (fresh_line n) rounds_ago_column 0 ≡ 0
+    ago = fresh-at n rounds_ago_column 0 (omega arith) refl
 
 pub fresh-is-one : FreshLineIsOne
 fresh-is-one w n i l e = rw e (checked w n i (fresh_line n) (fresh-good w n i (length l) e))

@@ -12,12 +12,13 @@ use borrow.Author.Tests.{eq-eqb, ne_eqb}
 use lib.Dec.{eqb}
 use lib.Pow.{pow_mono}
 use lib.ListN.{length, get_or, take}
-use lib.Seq.{take_at, ext_get_or}
+use lib.Seq.{sets, take_at, ext_get_or}
 use Rattle.std.specs.Int.{bit_at}
 use Rattle.std.proofs.lemmas.List.{get_or_past}
 use Rattle.std.proofs.lemmas.Nat.Bits.{bit_at_lowest, bit_at-suc, bit_at-lt}
 use Rattle.lists.specs.Search.{list_of}
 use Rattle.lists.specs.Sums.{bit}
+use Rattle.lists.proofs.Writing.{sets-all}
 use Rattle.lists.proofs.SearchLaws.{list_of-length, list_of-at, list_of-append}
 use Rattle.board.specs.Packed.{bits, suspicion, packed_length, packed_byte, pack, heard_byte, heard, AnyBytesAreARow}
 
@@ -100,6 +101,11 @@ take_heard n from p h =
 
 pub front-length : (n from : ℕ) (p r : List ℕ) → n ≤ 64 → r ≡ heard 64 from p → length (take n r) ≡ n
 front-length n from p r h e = rw (e, take_heard n from p h) (heard-length n from p)
+
+-- the loop that fills a row with what is heard has filled it
+pub heard-filled : (from k : ℕ) (p l t : List ℕ) → t ≡ sets l 0 (list_of (heard_byte from p) k) → length l ≡ 64 → k ≡ 64 → t ≡ heard 64 from p
+unfolding heard
+heard-filled from k p l t e long h = e ∙ rw h (sets-all l (list_of (heard_byte from p) 64) (long ∙ sym (list_of-length (heard_byte from p) 64)))
 
 -- whatever bytes come are a row
 heard-low : (from : ℕ) (p : List ℕ) (k : ℕ) → heard_byte from p k ≤ 1
