@@ -14,9 +14,9 @@ use Rattle.table.specs.Line.{line}
 use Rattle.table.specs.Fresh.{fresh_byte, fresh_table}
 use Rattle.table.proofs.CellLaws.{line-inside}
 use Rattle.table.proofs.LineLaws.{line_is}
-use Rattle.board.specs.Calls.{place_check}
+use Rattle.board.specs.Calls.{fresh_after}
+use Rattle.board.proofs.KeepsLaws.{good, fresh-is-one}
 use Rattle.cable.specs.Claims.{FreshBoards}
-use Rattle.cable.proofs.LineFacts.{Place, place}
 
 fresh-length : (n : ℕ) → length (fresh_table n) ≡ table_length n
 unfolding fresh_table
@@ -35,4 +35,4 @@ fresh-line n i h =
 
 -- fresh boards, an end in itself
 pub fresh-boards : FreshBoards
-fresh-boards w n i l e = rw e (sym (fresh-line n i (place w n i (length l) e).below))
+fresh-boards w n i l e = let g = good w n i (fresh_after w n i l) (fresh-is-one w n i l e) in rw e (sym (fresh-line n i g.below))

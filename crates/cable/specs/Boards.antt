@@ -112,6 +112,10 @@ pub record Hold (n : ℕ) (t : List ℕ) (b : Lines) : Type 0 where
   pub statuses : (k : ℕ) → k < n → slice_index (b k) status_column ≡ status n t k
   pub live_lines : (k : ℕ) → k < n → live n t k ≡ true → b k ≡ line n t k
 
+-- boards that hold the lines of a table do
+abbrev pub LinesAreHeld : Type 0
+LinesAreHeld = (n : ℕ) (t : List ℕ) → Hold n t (line n t)
+
 -- Rule Boards do the run: boards that hold what the table has do so after as many entries as the run took, and its sheet shows what they answered
 pub record SameRun (w n : ℕ) (b : Lines) (schedule sheet : List ℕ) (o : RunResult) : Type 0 where
   pub held : Hold n o.state.table (after_entries w n b (take o.taken (entries schedule)))
