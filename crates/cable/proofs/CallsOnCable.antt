@@ -4,16 +4,15 @@ use mathlib.Core.Path.{◌≡◌, refl, sym, ap, ◌∙◌}
 use mathlib.Core.Logic.{◌≢◌}
 use mathlib.Core.Bool.{true, false, cond}
 use mathlib.Core.List.{List}
-use Prim.Native.Nat.{ℕ, ◌+◌, ◌≤◌, ◌<◌}
+use Prim.Native.Nat.{ℕ, ◌+◌, ◌<◌}
 use native.Mathlib.Decide.{ℕ_discrete}
 use native.Mathlib.Omega.{arith}
 use borrow.Author.Tests.{eqb-true, eq-eqb, ne_eqb, lt-ltb}
-use lib.Dec.{eqb}
 use lib.ListN.{length, get_or, length-replicate}
 use Rattle.std.specs.Prelude.{Option, Some, None, Ok, replicate}
 use Rattle.lists.proofs.BoolLaws.{by_bool}
 use Rattle.lists.proofs.SearchLaws.{both}
-use Rattle.table.specs.Table.{head, stride, table_length, cell, status_column, finished_column, live, finished, row}
+use Rattle.table.specs.Table.{head, stride, cell, status_column, finished_column, live, finished, row}
 use Rattle.table.specs.Line.{line, row_of}
 use Rattle.table.specs.Rules.{numbered_table_refusal}
 use Rattle.table.proofs.Accepting.{Accepted, accepted}

@@ -1,6 +1,6 @@
 -- The rules of a line by itself are those of a line of a table.
 -- Assumes nothing.
-use mathlib.Core.Path.{◌≡◌, refl, ap}
+use mathlib.Core.Path.{◌≡◌, ap}
 use mathlib.Core.Bool.{true}
 use mathlib.Core.List.{List}
 use Prim.Native.Nat.{ℕ, ◌+◌, ◌<◌}
@@ -14,11 +14,10 @@ use Rattle.lists.proofs.RefusalLaws.{ensure_ok, and_ok}
 use Rattle.lists.proofs.SearchLaws.{every-at}
 use Rattle.table.specs.Table.{head, stride, table_length, status_column, next_column, finished_column, tests_column, told_by_column, rounds_ago_column}
 use Rattle.table.specs.Line.{line}
-use Rattle.table.specs.Rules.{wired_line_rules, row_rule, numbered_table_refusal}
+use Rattle.table.specs.Rules.{wired_line_rules, row_rule}
 use Rattle.table.specs.Sizes.{is_size}
 use Rattle.table.specs.Wiring.{wiring_check}
 use Rattle.table.proofs.Accepting.{accepted}
-use Rattle.table.proofs.CellLaws.{Line, line-holds}
 use Rattle.table.proofs.LineLaws.{line_at, line-length}
 use Rattle.board.specs.Calls.{line_rules, place_check, line_check}
 use Rattle.cable.specs.Claims.{LinesOfTables}

@@ -4,14 +4,14 @@ use mathlib.Core.Path.{◌≡◌, refl, sym, ap, ◌∙◌}
 use mathlib.Core.Logic.{◌≢◌}
 use mathlib.Core.Bool.{true, false, cond}
 use mathlib.Core.List.{List, [], ◌∷◌}
-use Prim.Native.Nat.{ℕ, suc, ◌-◌, min, ◌+◌, ◌≤◌, ◌<◌}
+use Prim.Native.Nat.{ℕ, suc, ◌-◌, ◌≤◌, ◌<◌}
 use native.Mathlib.Decide.{ℕ_discrete}
 use native.Mathlib.Omega.{arith}
 use borrow.Author.Tests.{eqb-true, eqb-false, eq-eqb, ne_eqb}
 use lib.Dec.{eqb}
 use lib.ListN.{length, get_or, set, take}
 use lib.Seq.{get_or-set_other}
-use Rattle.std.specs.Prelude.{Option, Some, None, Ok, Err}
+use Rattle.std.specs.Prelude.{Option, None, Ok, Err}
 use Rattle.lists.specs.Refusal.{Check, unless_refused}
 use Rattle.lists.proofs.BoolLaws.{by_bool}
 use Rattle.table.specs.Table.{table_length, status_column, next_column, finished_column, tests_column, rounds_ago_column, status_crashed, status, finished, live}
@@ -22,10 +22,9 @@ use Rattle.table.specs.Wiring.{wiring_check}
 use Rattle.table.proofs.Accepting.{Accepted, accepted}
 use Rattle.table.proofs.CellLaws.{Line, line-holds}
 use Rattle.table.proofs.LineLaws.{line-set, line-set-other}
-use Rattle.table.proofs.SizeLaws.{size_top}
 use Rattle.station.specs.Outcome.{outcome_exchanged, outcome_tested_told}
 use Rattle.station.specs.Step.{aged}
-use Rattle.plant.specs.Turn.{kind_turn, makes_test, replies, turn, turn_tested, turn_outcome, crash}
+use Rattle.plant.specs.Turn.{makes_test, replies, turn, turn_tested, turn_outcome, crash}
 use Rattle.plant.specs.Round.{reset_lines, after_round}
 use Rattle.plant.specs.Entry.{Entry, State, is_crash, entry_refusal, acted, after, tested_of, sheet_line}
 use Rattle.plant.specs.Entry.{outcome_of as entry_outcome}
@@ -34,8 +33,8 @@ use Rattle.plant.proofs.RoundLaws.{reset-other}
 use Rattle.plant.proofs.RunLaws.{accepted-number, start-facts}
 use Rattle.plant.proofs.RulesKept.{Takes, entry-facts, acted-lines, accepted-kept}
 use Rattle.board.specs.Board.{round_closed}
-use Rattle.board.specs.Calls.{line_check, next_answer, closed_after}
-use Rattle.cable.specs.Boards.{Lines, row_from, reply_from, tested_by, reply_to_test, tester_after, tester_answer, after_sending, after_turn, after_crash, after_act, all_finished, after_closing, after_entry, after_entries, entry_line, sheet_after, Hold, SameRun, BoardsDoTheRun}
+use Rattle.board.specs.Calls.{line_check, closed_after}
+use Rattle.cable.specs.Boards.{Lines, reply_from, tested_by, reply_to_test, tester_after, tester_answer, after_sending, after_turn, after_crash, after_act, after_closing, after_entry, after_entries, entry_line, sheet_after, Hold, BoardsDoTheRun}
 use Rattle.cable.proofs.TurnByLines.{tested-below, none-tested}
 use Rattle.cable.proofs.ClosingByLines.{closed-line}
 use Rattle.cable.proofs.LineFacts.{line-ok}
