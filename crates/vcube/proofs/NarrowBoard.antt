@@ -18,7 +18,8 @@ use Rattle.station.specs.Outcome.{outcome_byte}
 use Rattle.board.specs.Board.{left_told, joined}
 use Rattle.board.specs.Packed.{heard}
 use Rattle.board.specs.Calls.{place_check, line_check, live_check, turn_check, replied_check, row_check, sent_check, exchanged_check}
-use Rattle.board.specs.Calls.{fresh_after, row_sent, next_answer, replied_answer, replied_after, silent_answer, silent_after, told_after, exchanged_after, closed_after}
+use Rattle.board.specs.Calls.{next_answer, replied_answer, silent_answer}
+use Rattle.board.specs.Calls.{fresh_after, row_sent, replied_after, silent_after, told_after, exchanged_after, closed_after}
 use Rattle.vcube.proofs.Narrow.{Narrow, narrow, station_far}
 
 -- a check that refuses all numbers from 255 on, and why
@@ -54,7 +55,9 @@ module _ (w n : ℕ) where
   place_far : (len : ℕ) → Far (λ i. place_check w n i len)
   unfolding place_check
   place_far len =
-      behind (wiring_check w) _ (λ a. behind (ensure (is_size n) SizeOutOfRange) _ (λ z. before _ _ (record { why = NoSuchStation; far = λ x. station_far n x (ensure_ok _ _ tt z) })))
+      behind (wiring_check w) _
+      (λ a. behind (ensure (is_size n) SizeOutOfRange) _
+        (λ z. before _ _ (record { why = NoSuchStation; far = λ x. station_far n x (ensure_ok _ _ tt z) })))
 
   line_far : (l : List ℕ) → Far (λ i. line_check w n i l)
   unfolding line_check
