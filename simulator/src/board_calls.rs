@@ -1,0 +1,120 @@
+//! The calls of a board over the bytes of its line.
+
+use crate::board::Board;
+use crate::numbers::Station;
+use crate::refusal::{number_of, Refusal};
+use crate::run::NO_STATION;
+
+/// Board fresh: refusals 24, 1, 9, 25.
+pub fn board_fresh(wiring: usize, n: usize, own: u8, line: &mut [u8]) -> u8 {
+    write(Board::fresh(wiring, n, own, line.len()), line)
+}
+
+/// Board next: refusals 24, 1, 9, 25, 3, 10, 11. Gives the number and the tested station.
+pub fn board_next(wiring: usize, n: usize, own: u8, line: &[u8]) -> (u8, u8) {
+    match admit_turn(wiring, n, own, line) {
+        Ok(board) => {
+            let tested = board.next_test().map(|(_, j)| j);
+            (0, tested.map_or(NO_STATION, Station::number))
+        }
+        Err(refusal) => (refusal.number(), 0),
+    }
+}
+
+/// Board row: refusals 24, 1, 9, 25, 3, 10, 13.
+pub fn board_row(wiring: usize, n: usize, own: u8, line: &[u8], packed: &mut [u8]) -> u8 {
+    let admitted = admit_live(wiring, n, own, line).and_then(|board| {
+        check_packed(&board, packed)?;
+        packed.copy_from_slice(&board.packed_row());
+        Ok(())
+    });
+    number_of(&admitted)
+}
+
+/// Board replied: refusals 24, 1, 9, 25, 3, 10, 11, 13. Gives the number and the outcome.
+pub fn board_replied(wiring: usize, n: usize, own: u8, line: &mut [u8], packed: &[u8]) -> (u8, u8) {
+    let admitted = admit_turn(wiring, n, own, line).and_then(|board| {
+        check_packed(&board, packed)?;
+        Ok(board)
+    });
+    turn(admitted, Some(packed), line)
+}
+
+/// Board not replied: refusals 24, 1, 9, 25, 3, 10, 11. Gives the number and the outcome.
+pub fn board_not_replied(wiring: usize, n: usize, own: u8, line: &mut [u8]) -> (u8, u8) {
+    turn(admit_turn(wiring, n, own, line), None, line)
+}
+
+/// Board told: refusals 24, 1, 9, 25, 3, 10, 9.
+pub fn board_told(wiring: usize, n: usize, own: u8, line: &mut [u8], by: u8) -> u8 {
+    let told = admit_live(wiring, n, own, line).and_then(|mut board| {
+        let by = board.another(by)?;
+        board.leave_told(by);
+        Ok(board)
+    });
+    write(told, line)
+}
+
+/// Board exchanged: refusals 24, 1, 9, 25, 3, 10, 9, 13.
+pub fn board_exchanged(
+    wiring: usize,
+    n: usize,
+    own: u8,
+    line: &mut [u8],
+    from: u8,
+    packed: &[u8],
+) -> u8 {
+    let joined = admit_live(wiring, n, own, line).and_then(|mut board| {
+        let from = board.another(from)?;
+        check_packed(&board, packed)?;
+        board.join_packed(from, packed);
+        Ok(board)
+    });
+    write(joined, line)
+}
+
+/// Board round closed: refusals 24, 1, 9, 25, 3.
+pub fn board_round_closed(wiring: usize, n: usize, own: u8, line: &mut [u8]) -> u8 {
+    let closed = Board::admit(wiring, n, own, line).map(|mut board| {
+        board.close_round();
+        board
+    });
+    write(closed, line)
+}
+
+/// Refusals 24, 1, 9, 25, 3, 10.
+fn admit_live(wiring: usize, n: usize, own: u8, line: &[u8]) -> Result<Board, Refusal> {
+    let board = Board::admit(wiring, n, own, line)?;
+    Refusal::NotLive.when(!board.line().is_live())?;
+    Ok(board)
+}
+
+/// Refusals 24, 1, 9, 25, 3, 10, 11.
+fn admit_turn(wiring: usize, n: usize, own: u8, line: &[u8]) -> Result<Board, Refusal> {
+    let board = admit_live(wiring, n, own, line)?;
+    Refusal::PassFinished.when(board.line().finished)?;
+    Ok(board)
+}
+
+/// Refusal 13.
+fn check_packed(board: &Board, packed: &[u8]) -> Result<(), Refusal> {
+    Refusal::ListLength.when(packed.len() != board.packed_length())
+}
+
+fn turn(admitted: Result<Board, Refusal>, reply: Option<&[u8]>, line: &mut [u8]) -> (u8, u8) {
+    match admitted {
+        Ok(mut board) => {
+            let outcome = board.turn(reply);
+            (write(Ok(board), line), outcome as u8)
+        }
+        Err(refusal) => (refusal.number(), 0),
+    }
+}
+
+/// Writes the line of the board, if there is one. Gives the number.
+fn write(board: Result<Board, Refusal>, line: &mut [u8]) -> u8 {
+    if let Ok(board) = &board {
+        board.line().encode(line);
+    }
+    number_of(&board)
+}
