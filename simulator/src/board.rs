@@ -8,7 +8,6 @@ use crate::refusal::Refusal;
 use crate::wiring::Wiring;
 
 /// What goes over the cable. The station is the sender, the bytes are its row, packed.
-#[derive(Clone, Debug, PartialEq, Eq)]
 pub enum Message {
     Test,
     Reply(Station, Vec<u8>),
@@ -18,7 +17,14 @@ pub enum Message {
     Closed,
 }
 
-#[derive(Clone, Debug, PartialEq, Eq)]
+/// What a call is told of plant and board: any numbers.
+#[derive(Clone, Copy, Debug)]
+pub struct Given {
+    pub wiring: usize,
+    pub n: usize,
+    pub own: u8,
+}
+
 pub struct Board {
     wiring: Wiring,
     size: Size,
@@ -30,23 +36,24 @@ pub struct Board {
 
 impl Board {
     /// Refusals 24, 1, 9, 25.
-    pub fn fresh(wiring: usize, n: usize, own: u8, length: usize) -> Result<Board, Refusal> {
-        let wiring = Wiring::new(wiring)?;
-        let size = Size::new(n)?;
-        let own = size.station(own)?;
+    pub fn fresh(given: Given, length: usize) -> Result<Board, Refusal> {
+        let wiring = Wiring::new(given.wiring)?;
+        let size = Size::new(given.n)?;
+        let own = size.station(given.own)?;
         Refusal::LineLength.when(length != size.line_length())?;
+        let (line, awaited) = (Line::FRESH, None);
         Ok(Board {
             wiring,
             size,
             own,
-            line: Line::FRESH,
-            awaited: None,
+            line,
+            awaited,
         })
     }
 
     /// Refusals 24, 1, 9, 25, 3.
-    pub fn admit(wiring: usize, n: usize, own: u8, line: &[u8]) -> Result<Board, Refusal> {
-        let mut board = Board::fresh(wiring, n, own, line.len())?;
+    pub fn admit(given: Given, line: &[u8]) -> Result<Board, Refusal> {
+        let mut board = Board::fresh(given, line.len())?;
         let keeps = keeps_line_rules(board.wiring, board.size, board.own, line);
         Refusal::LineRule.when(!keeps)?;
         board.line = Line::decode(board.size, line);
@@ -64,30 +71,39 @@ impl Board {
         Ok(station)
     }
 
-    /// The bytes of a packed row.
-    pub fn packed_length(&self) -> usize {
+    /// The board, or refusal 13 of a packed row.
+    pub fn check_packed(self, packed: &[u8]) -> Result<Board, Refusal> {
+        Refusal::ListLength.when(packed.len() != self.packed_length())?;
+        Ok(self)
+    }
+
+    fn packed_length(&self) -> usize {
         self.size.count().div_ceil(8)
     }
 
     /// Its row, packed: board k has bit k % 8 of byte k / 8.
     pub fn packed_row(&self) -> Vec<u8> {
         let mut packed = vec![0; self.packed_length()];
-        for k in self.size.stations().filter(|k| self.line.row.suspects(*k)) {
-            packed[k.index() / 8] |= 1 << (k.index() % 8);
+        let suspected = self.size.stations().filter(|k| self.line.row.suspects(*k));
+        for k in suspected.map(Station::index) {
+            packed[k / 8] |= 1 << (k % 8);
         }
         packed
     }
 
-    /// The row in a packed one: of the plant's stations, but the sender.
+    /// The row in a packed one: of all stations but the sender.
     fn heard(&self, from: Station, packed: &[u8]) -> Row {
         let has = |k: &Station| packed[k.index() / 8] >> (k.index() % 8) & 1 == 1;
         let others = self.size.stations().filter(|k| *k != from);
         others.filter(has).fold(Row::EMPTY, Row::with)
     }
 
-    /// Its next test.
-    pub fn next_test(&self) -> Option<(Distance, Station)> {
+    fn next_test(&self) -> Option<(Distance, Station)> {
         self.wiring.next_test(self.size, self.own, &self.line)
+    }
+
+    pub fn next_tested(&self) -> Option<Station> {
+        self.next_test().map(|(_, j)| j)
     }
 
     /// Its turn, with the packed row of the tested station, or without a reply.
@@ -105,8 +121,8 @@ impl Board {
         };
         self.line.next = self.wiring.next_after(self.size, m, outcome);
         self.line.tests += 1;
-        let alone = self.line.row.suspects_all_others(self.size, self.own);
-        if self.line.is_live() && alone {
+        let is_alone = self.line.row.suspects_all_others(self.size, self.own);
+        if self.line.is_live() && is_alone {
             self.line.status = Status::Alone;
         }
         outcome
@@ -139,7 +155,7 @@ impl Board {
 
     /// Begins its turn: sends a test to this station, or finishes its pass.
     pub fn begin_turn(&mut self) -> Option<(Station, Message)> {
-        self.awaited = self.next_test().map(|(_, j)| j);
+        self.awaited = self.next_tested();
         if self.awaited.is_none() {
             self.turn(None);
         }
@@ -176,7 +192,6 @@ impl Board {
         }
     }
 
-    /// It crashes.
     pub fn crash(&mut self) {
         self.line.status = Status::Crashed;
     }

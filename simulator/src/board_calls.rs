@@ -1,53 +1,46 @@
 //! The calls of a board over the bytes of its line.
 
-use crate::board::Board;
+use crate::board::{Board, Given};
 use crate::numbers::Station;
 use crate::refusal::{number_of, Refusal};
 use crate::run::NO_STATION;
 
 /// Board fresh: refusals 24, 1, 9, 25.
-pub fn board_fresh(wiring: usize, n: usize, own: u8, line: &mut [u8]) -> u8 {
-    write(Board::fresh(wiring, n, own, line.len()), line)
+pub fn board_fresh(given: Given, line: &mut [u8]) -> u8 {
+    write(Board::fresh(given, line.len()), line)
 }
 
 /// Board next: refusals 24, 1, 9, 25, 3, 10, 11. Gives the number and the tested station.
-pub fn board_next(wiring: usize, n: usize, own: u8, line: &[u8]) -> (u8, u8) {
-    match admit_turn(wiring, n, own, line) {
-        Ok(board) => {
-            let tested = board.next_test().map(|(_, j)| j);
-            (0, tested.map_or(NO_STATION, Station::number))
-        }
+pub fn board_next(given: Given, line: &[u8]) -> (u8, u8) {
+    match admit_turn(given, line) {
+        Ok(board) => (0, board.next_tested().map_or(NO_STATION, Station::number)),
         Err(refusal) => (refusal.number(), 0),
     }
 }
 
 /// Board row: refusals 24, 1, 9, 25, 3, 10, 13.
-pub fn board_row(wiring: usize, n: usize, own: u8, line: &[u8], packed: &mut [u8]) -> u8 {
-    let admitted = admit_live(wiring, n, own, line).and_then(|board| {
-        check_packed(&board, packed)?;
+pub fn board_row(given: Given, line: &[u8], packed: &mut [u8]) -> u8 {
+    let admitted = admit_live(given, line).and_then(|board| board.check_packed(packed));
+    if let Ok(board) = &admitted {
         packed.copy_from_slice(&board.packed_row());
-        Ok(())
-    });
+    }
     number_of(&admitted)
 }
 
 /// Board replied: refusals 24, 1, 9, 25, 3, 10, 11, 13. Gives the number and the outcome.
-pub fn board_replied(wiring: usize, n: usize, own: u8, line: &mut [u8], packed: &[u8]) -> (u8, u8) {
-    let admitted = admit_turn(wiring, n, own, line).and_then(|board| {
-        check_packed(&board, packed)?;
-        Ok(board)
-    });
+pub fn board_replied(given: Given, line: &mut [u8], packed: &[u8]) -> (u8, u8) {
+    let admitted = admit_turn(given, line).and_then(|board| board.check_packed(packed));
     turn(admitted, Some(packed), line)
 }
 
 /// Board not replied: refusals 24, 1, 9, 25, 3, 10, 11. Gives the number and the outcome.
-pub fn board_not_replied(wiring: usize, n: usize, own: u8, line: &mut [u8]) -> (u8, u8) {
-    turn(admit_turn(wiring, n, own, line), None, line)
+pub fn board_not_replied(given: Given, line: &mut [u8]) -> (u8, u8) {
+    turn(admit_turn(given, line), None, line)
 }
 
 /// Board told: refusals 24, 1, 9, 25, 3, 10, 9.
-pub fn board_told(wiring: usize, n: usize, own: u8, line: &mut [u8], by: u8) -> u8 {
-    let told = admit_live(wiring, n, own, line).and_then(|mut board| {
+pub fn board_told(given: Given, line: &mut [u8], by: u8) -> u8 {
+    let told = admit_live(given, line).and_then(|mut board| {
         let by = board.another(by)?;
         board.leave_told(by);
         Ok(board)
@@ -56,17 +49,10 @@ pub fn board_told(wiring: usize, n: usize, own: u8, line: &mut [u8], by: u8) -> 
 }
 
 /// Board exchanged: refusals 24, 1, 9, 25, 3, 10, 9, 13.
-pub fn board_exchanged(
-    wiring: usize,
-    n: usize,
-    own: u8,
-    line: &mut [u8],
-    from: u8,
-    packed: &[u8],
-) -> u8 {
-    let joined = admit_live(wiring, n, own, line).and_then(|mut board| {
+pub fn board_exchanged(given: Given, line: &mut [u8], from: u8, packed: &[u8]) -> u8 {
+    let joined = admit_live(given, line).and_then(|board| {
         let from = board.another(from)?;
-        check_packed(&board, packed)?;
+        let mut board = board.check_packed(packed)?;
         board.join_packed(from, packed);
         Ok(board)
     });
@@ -74,8 +60,8 @@ pub fn board_exchanged(
 }
 
 /// Board round closed: refusals 24, 1, 9, 25, 3.
-pub fn board_round_closed(wiring: usize, n: usize, own: u8, line: &mut [u8]) -> u8 {
-    let closed = Board::admit(wiring, n, own, line).map(|mut board| {
+pub fn board_round_closed(given: Given, line: &mut [u8]) -> u8 {
+    let closed = Board::admit(given, line).map(|mut board| {
         board.close_round();
         board
     });
@@ -83,22 +69,17 @@ pub fn board_round_closed(wiring: usize, n: usize, own: u8, line: &mut [u8]) -> 
 }
 
 /// Refusals 24, 1, 9, 25, 3, 10.
-fn admit_live(wiring: usize, n: usize, own: u8, line: &[u8]) -> Result<Board, Refusal> {
-    let board = Board::admit(wiring, n, own, line)?;
+fn admit_live(given: Given, line: &[u8]) -> Result<Board, Refusal> {
+    let board = Board::admit(given, line)?;
     Refusal::NotLive.when(!board.line().is_live())?;
     Ok(board)
 }
 
 /// Refusals 24, 1, 9, 25, 3, 10, 11.
-fn admit_turn(wiring: usize, n: usize, own: u8, line: &[u8]) -> Result<Board, Refusal> {
-    let board = admit_live(wiring, n, own, line)?;
+fn admit_turn(given: Given, line: &[u8]) -> Result<Board, Refusal> {
+    let board = admit_live(given, line)?;
     Refusal::PassFinished.when(board.line().finished)?;
     Ok(board)
-}
-
-/// Refusal 13.
-fn check_packed(board: &Board, packed: &[u8]) -> Result<(), Refusal> {
-    Refusal::ListLength.when(packed.len() != board.packed_length())
 }
 
 fn turn(admitted: Result<Board, Refusal>, reply: Option<&[u8]>, line: &mut [u8]) -> (u8, u8) {

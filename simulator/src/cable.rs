@@ -1,6 +1,6 @@
 //! The boards of a plant on their cable, and the bus master, who sees what goes over it.
 
-use crate::board::{Board, Message};
+use crate::board::{Board, Given, Message};
 use crate::outcome::Outcome;
 use crate::run::NO_STATION;
 
@@ -14,7 +14,7 @@ impl Cable {
     /// Boards that begin with the lines of a table. Used only on a valid one.
     pub fn new(wiring: usize, n: usize, table: &[u8]) -> Cable {
         let lines = (0..).zip(table.chunks_exact(table.len() / n));
-        let boards = lines.map(|(own, line)| Board::admit(wiring, n, own, line));
+        let boards = lines.map(|(own, line)| Board::admit(Given { wiring, n, own }, line));
         Cable(boards.collect::<Result<_, _>>().expect("a valid table"))
     }
 
@@ -72,11 +72,8 @@ impl Cable {
 
     /// Some board is live, and every live one has finished its pass.
     fn is_round_over(&self) -> bool {
-        let mut live = self
-            .0
-            .iter()
-            .filter(|board| board.line().is_live())
-            .peekable();
-        live.peek().is_some() && live.all(|board| board.line().finished)
+        let lines = self.0.iter().map(Board::line);
+        let mut live = lines.filter(|line| line.is_live()).peekable();
+        live.peek().is_some() && live.all(|line| line.finished)
     }
 }

@@ -42,6 +42,7 @@ mod wait;
 mod wiring;
 mod words;
 
+pub use board::Given;
 pub use board_calls::{
     board_exchanged, board_fresh, board_next, board_not_replied, board_replied, board_round_closed,
     board_row, board_told,

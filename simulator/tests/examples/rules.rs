@@ -6,7 +6,7 @@ use crate::plant::{driven, Plant, CUBE, RING};
 use simulator::{
     assignment, board_exchanged, board_row, convert, converted_length, doubt_lamp, drive, figures,
     join_totals, load, mend, read_input, save, saved_size, slot, totals, wait, Cable, Fraction,
-    Slot, SCHEDULE_LENGTH, WORDS_LENGTH,
+    Given, Slot, SCHEDULE_LENGTH, WORDS_LENGTH,
 };
 
 const RULES: &str = include_str!("../../../docs/RULES.md");
@@ -108,11 +108,16 @@ fn worked_run_on_the_ring() {
 #[test]
 fn packed_rows() {
     let mut plant = Plant::fresh(RING, 11).with(&[(3, 0), (3, 2), (3, 8), (3, 10)]);
-    let mut packed = [170; 2];
-    assert_eq!(board_row(RING, 11, 3, plant.line(3), &mut packed), 0);
+    let (mut packed, wiring) = ([170; 2], RING);
+    let given = Given {
+        wiring,
+        n: 11,
+        own: 3,
+    };
+    assert_eq!(board_row(given, plant.line(3), &mut packed), 0);
     assert_eq!(packed, [5, 5]);
     let line = plant.line_mut(3);
-    assert_eq!(board_exchanged(RING, 11, 3, line, 9, &[255; 2]), 0);
+    assert_eq!(board_exchanged(given, line, 9, &[255; 2]), 0);
     assert_eq!(line[6..], [1, 1, 1, 0, 1, 1, 1, 1, 1, 0, 1]);
 }
 
