@@ -82,14 +82,9 @@ fn admit_turn(given: Given, line: &[u8]) -> Result<Board, Refusal> {
     Ok(board)
 }
 
-fn turn(admitted: Result<Board, Refusal>, reply: Option<&[u8]>, line: &mut [u8]) -> (u8, u8) {
-    match admitted {
-        Ok(mut board) => {
-            let outcome = board.turn(reply);
-            (write(Ok(board), line), outcome as u8)
-        }
-        Err(refusal) => (refusal.number(), 0),
-    }
+fn turn(mut board: Result<Board, Refusal>, reply: Option<&[u8]>, line: &mut [u8]) -> (u8, u8) {
+    let outcome = board.as_mut().map_or(0, |board| board.turn(reply) as u8);
+    (write(board, line), outcome)
 }
 
 /// Writes the line of the board, if there is one. Gives the number.
