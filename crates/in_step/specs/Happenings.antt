@@ -7,8 +7,8 @@ use Rattle.table.specs.Line.{row_of, is_live}
 use Rattle.station.specs.Outcome.{outcome_no_reply}
 use Rattle.plant.specs.Turn.{kind_turn, kind_late, kind_crash, turn_tested}
 use Rattle.plant.specs.Entry.{Entry, State, entry_of, entry_refusal}
-use Rattle.board.specs.Board.{tested, turn_of, outcome}
-use Rattle.in_step.specs.System.{Board, Reply, End, System, after_all, table_at, Note, note_of, line_by, put_in_force}
+use Rattle.board.specs.Board.{tested, turn_of, outcome, round_closed}
+use Rattle.in_step.specs.System.{Board, Reply, End, System, after_all, table_at, Note, note_of, line_by}
 
 -- the system with board k become b
 abbrev pub with_board : System → ℕ → Board → System
@@ -52,13 +52,21 @@ end_heard w n s y None = y
 end_heard w n s y (Some x) =
     if x.turn == suc (length y.entries) then entry_made w n s y (entry_by w n (after_all w n s y.entries).table x) else y
 
--- board k puts entry m, from 0, in force, if it is its next one. Any other note does nothing
+-- the entry of the note is in force at board k, with the line that it made of it, closed if the entry closed the round; and the turn that the board
+-- made, if any, is over. If it could make none, nothing is done
+unfoldable pub put_in_force : System → ℕ → Note → Option (List ℕ) → System
+put_in_force y k note None = y
+put_in_force y k note (Some l) =
+    let b = y.boards k in
+    with_board y k (record { in_force = suc b.in_force; line = if note.closed then round_closed l else l; aside = None })
+
+-- the note of entry m, from 0, is taken if that is the board's next entry. Any other note does nothing
 unfoldable pub note_heard : ℕ → ℕ → State → System → ℕ → ℕ → Option Entry → Option End → System
 note_heard w n s y k m None heard = y
 note_heard w n s y k m (Some e) heard =
     let b = y.boards k in
     let note : Note = note_of w n (table_at w n s y.entries m) e in
-    if m == b.in_force then with_board y k (put_in_force b note (line_by n k b note heard)) else y
+    if m == b.in_force then put_in_force y k note (line_by n k b note heard) else y
 
 -- what may happen
 pub data Happening : Type 0 where

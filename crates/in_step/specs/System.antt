@@ -61,10 +61,10 @@ pub record Note : Type 0 where
 abbrev pub note_of : ℕ → ℕ → List ℕ → Entry → Note
 note_of w n t e = record { entry = e; tested = tested_of w n t e; outcome = outcome_of w n t e; closed = round_over n (acted w n t e) }
 
--- the row that the tester sent in the turn of the note, if the board heard it
-unfoldable pub row_heard : Board → Note → Option End → Option (List ℕ)
-row_heard b note None = None
-row_heard b note (Some x) = if x.turn == suc b.in_force && x.from == note.entry.station then Some x.row else None
+-- the row that tester i sent in the turn that follows the entries in force at the board, if that is the end that the board heard
+unfoldable pub row_heard : Board → ℕ → Option End → Option (List ℕ)
+row_heard b i None = None
+row_heard b i (Some x) = if x.turn == suc b.in_force && x.from == i then Some x.row else None
 
 -- Rule In force, of a board's own entry: its status becomes 1, if it crashed; or the line computed aside becomes its line
 unfoldable pub own_line : Board → Note → Option (List ℕ)
@@ -74,7 +74,7 @@ own_line b note = if is_crash note.entry then Some (set b.line status_column sta
 unfoldable pub tested_line : ℕ → ℕ → Board → Note → Option End → Option (List ℕ)
 tested_line n k b note heard =
     if note.outcome == outcome_tested_told then Some (left_told b.line note.entry.station)
-    else (if note.outcome == outcome_exchanged then option_map (joined n k b.line) (row_heard b note heard)
+    else (if note.outcome == outcome_exchanged then option_map (joined n k b.line) (row_heard b note.entry.station heard)
     else Some b.line)
 
 -- Rule In force, of any board k: the line that it makes by the note of its next entry, before a closing; nothing if it cannot
@@ -83,8 +83,3 @@ line_by n k b note heard =
     if k == note.entry.station then own_line b note
     else (if k == note.tested then tested_line n k b note heard
     else Some b.line)
-
--- the entry is in force at the board with that line, closed if the entry closed the round; and the turn that it made, if any, is over
-unfoldable pub put_in_force : Board → Note → Option (List ℕ) → Board
-put_in_force b note None = b
-put_in_force b note (Some l) = record { in_force = suc b.in_force; line = if note.closed then round_closed l else l; aside = None }

@@ -1,0 +1,4 @@
+-- The laws that the claims stand on.
+pub mod TurnHeard
+pub mod Entries
+pub mod Kept
