@@ -9,7 +9,7 @@ use native.Mathlib.Omega.{arith}
 use borrow.Author.Tests.{eqb-true, ltb-true, eq-eqb}
 use lib.Dec.{eqb, ltb}
 use lib.ListN.{length, take, length-append}
-use lib.Seq.{take-length}
+use lib.Seq.{take-length, length-take-le}
 use Rattle.std.specs.Prelude.{Option, None, Some, is_none, slice_get}
 use Rattle.std.proofs.lemmas.Option.{same_Some, none-some, slice_get_within}
 use Rattle.lists.proofs.BoolLaws.{by_bool}
@@ -26,7 +26,8 @@ use Rattle.in_step.specs.System.{Board, Reply, End, System, start, after_all, ta
 use Rattle.in_step.specs.Happenings.{with_board, reply_sent, turn_made, reply_heard, entry_made, entry_by, end_heard, put_in_force, note_heard, Happening, after_happening, after_happenings}
 use Rattle.in_step.specs.Happenings.Happening.{test_comes, reply_comes, none_comes, end_comes, crash_found, note_comes}
 use Rattle.in_step.specs.Claims.{InStep, BoardsInStep}
-use Rattle.in_step.proofs.TurnHeard.{RowOf, Heard, live-line, own-turn, line-after}
+use Rattle.in_step.proofs.TurnHeard.{RowOf, Heard, live-line, own-turn, own-outcome, line-after}
+use Rattle.in_step.proofs.Runs.{is-run, taken-take}
 use Rattle.in_step.proofs.Entries.{get-snoc, cons-all, table-kept, at-next, Taken, taken-snoc, taken-at, accepted-at}
 
 -- of a reply of turn e + 1: it is of a board that table t, after e entries, has live, and brings its row
@@ -377,8 +378,24 @@ module _ (w n : ℕ) (s : State) (a : Accepted w n s.table) where
   all-kept y h [] = h
   all-kept y h (x ∷ hs) = all-kept (after_happening w n s y x) (happening-kept y h x) hs
 
+  in-step : (z : numbered_table_refusal w n s.table ≡ 0) (y : System) → Holds y → InStep w n s y
+  unfolding Fits GoodEnd
+  in-step z y h = record {
+    made = λ k hk. (h.boards k hk).0;
+    lines = λ k hk. (h.boards k hk).1;
+    runs = λ m sheet b long.
+        let part : length (take m y.entries) ≡ m = length-take-le m y.entries b in
+        is-run w n s (take m y.entries) sheet z (taken-take w n s y.entries h.taken m) (omega (arith, part, long));
+    outcomes = λ x d g turn ok.
+        let t : List ℕ = (after_all w n s y.entries).table in
+        let low : d.from < n = (entry-facts n (after_all w n s y.entries) (entry_by w n t d) ok).below in
+        let here : T y.entries (length y.entries) ≡ t =
+        ap (λ (es : List Entry). (after_all w n s es).table) (take-length y.entries) in
+        let on : EndOn w n t (y.boards d.from) d (length y.entries) =
+        subst (λ (t : List ℕ). EndOn w n t (y.boards d.from) d (length y.entries)) here (h.ends x d g low (length y.entries) turn).1 in
+        own-outcome w n t (accepted-all y h) d low on.reply on.heard on.outcome_sent;
+  }
+
 pub boards-in-step : BoardsInStep
-unfolding Fits
 boards-in-step w n s hs z =
-    let h = all-kept w n s (accepted w n s.table z) (start n s) (first w n s (accepted w n s.table z)) hs in
-    record { made = λ k hk. (h.boards k hk).0; lines = λ k hk. (h.boards k hk).1 }
+    let a = accepted w n s.table z in in-step w n s a z (after_happenings w n s (start n s) hs) (all-kept w n s a (start n s) (first w n s a) hs)

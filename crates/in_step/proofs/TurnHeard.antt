@@ -131,6 +131,12 @@ unfolding acted
 own-turn w n t a x low reply heard o =
     rw (turn-entry (eqb x.outcome 3 && live n t (turn_tested w n t x.from)) x.from, o) (turn-heard w n t a x.from low reply heard)
 
+pub own-outcome : (w n : ℕ) (t : List ℕ) (a : Accepted w n t) (x : End) → x.from < n → (reply : Option (List ℕ)) → Heard w n t x.from reply
+    → x.outcome ≡ outcome w n x.from (line n t x.from) reply → entry_outcome w n t (entry_by w n t x) ≡ x.outcome
+unfolding entry_outcome
+own-outcome w n t a x low reply heard o =
+    rw (turn-entry (eqb x.outcome 3 && live n t (turn_tested w n t x.from)) x.from, o) (sym (outcome-heard w n t a x.from low reply heard))
+
 -- an entry that is taken: what it makes of the line of each board that can put it in force
 module _ (w n : ℕ) (s : State) (a : Accepted w n s.table) (e : Entry) (taken : entry_refusal n s e ≡ 0) where
   abbrev t : List ℕ
