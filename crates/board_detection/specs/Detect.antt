@@ -1,0 +1,106 @@
+-- Boards detect: boards on a cable, each with its own line and nothing else, come to suspect just the boards that are not live. w is the wiring's
+-- number, n the size, b k the line of board k, and es the entries that the boards take by their calls, one after the other (cable's CableRun).
+-- Assumes nothing.
+use Rattle.std.specs.Prelude.{◌≡◌, ◌⊎◌, ℕ, suc, ◌+◌, ◌-◌, ◌*◌, ◌≤◌, ◌<◌, Bool, true, false, not, ◌&&◌, List, [], ◌∷◌, ◌++◌, length, Some, Result, Ok, Err, if◌then◌else◌, ◌==◌, slice_index}
+use Rattle.lists.specs.declared.refusal.Refusal.{Refusal}
+use Rattle.lists.specs.Search.{every}
+use Rattle.lists.specs.Sums.{sum_below, bit}
+use Rattle.table.specs.Sizes.{dimension}
+use Rattle.table.specs.Wiring.{is_ring}
+use Rattle.table.specs.Table.{next_column, finished_column, tests_column}
+use Rattle.table.specs.Line.{is_live}
+use Rattle.station.specs.Groups.{is_present, width, member}
+use Rattle.station.specs.Outcome.{outcome_finished}
+use Rattle.plant.specs.Turn.{kind_turn, kind_late}
+use Rattle.plant.specs.Entry.{Entry}
+use Rattle.detection.specs.Claim.{counted_from}
+use Rattle.board.specs.Board.{suspicion_of}
+use Rattle.board.specs.Calls.{place_check, line_check, turn_check, next_answer, fresh_after}
+use Rattle.cable.specs.Boards.{Lines, all_finished}
+use Rattle.cable.specs.Cable.{tester_answer}
+use Rattle.cable.specs.CableRun.{reply_to_test, called_act, called_entry, called_entries}
+
+-- Rule Start of a round, of a board's line: next distance 1, not finished, no tests
+pub record StartsRound (l : List ℕ) : Type 0 where
+  pub next : slice_index l next_column ≡ 1
+  pub unfinished : slice_index l finished_column ≡ 0
+  pub untested : slice_index l tests_column ≡ 0
+
+-- how many of n boards are live
+unfoldable pub live_boards : ℕ → Lines → ℕ
+live_boards n b = sum_below (λ i. bit (is_live (b i))) n
+
+-- Rule Boards detect, what is supposed of the boards: the calls let each line through, and it is at the start of a round; two boards at least are
+-- live, and no live one suspects a live one
+pub record BoardsBegin (w n : ℕ) (b : Lines) : Type 0 where
+  pub lines : (i : ℕ) → i < n → line_check w n i (b i) ≡ Ok tt
+  pub start : (i : ℕ) → i < n → StartsRound (b i)
+  pub two_live : 2 ≤ live_boards n b
+  pub accurate : (i j : ℕ) → i < n → j < n → is_live (b i) ≡ true → is_live (b j) ≡ true → suspicion_of (b i) j ≡ 0
+
+-- and of an entry: it is no crash, but a turn that its board's calls do not refuse; and where no reply comes in time, the board that call board
+-- next names is not live
+pub record TurnInTime (w n : ℕ) (b : Lines) (e : Entry) : Type 0 where
+  pub kind : (e.kind ≡ kind_turn) ⊎ (e.kind ≡ kind_late)
+  pub taken : turn_check w n e.station (b e.station) ≡ Ok tt
+  pub no_late : e.kind ≡ kind_late → (j : ℕ) → next_answer w n e.station (b e.station) ≡ Ok (Some j) → is_live (b j) ≡ false
+
+-- so it is of each entry of the list, as those before it leave the boards
+abbrev pub TurnsInTime : ℕ → ℕ → Lines → List Entry → Type 0
+TurnsInTime w n b es =
+    (before : List Entry) (e : Entry) (rest : List Entry) → es ≡ before ++ (e ∷ rest) → TurnInTime w n (called_entries w n b before) e
+
+-- the outcome is that of a test: any but 0
+abbrev pub is_of_test : Result ℕ Refusal → Bool
+is_of_test (Ok outcome) = not (outcome == outcome_finished)
+is_of_test (Err r) = false
+
+-- whether the turn makes a test, by what its board's call answers
+abbrev pub board_tests : ℕ → ℕ → Lines → Entry → Bool
+board_tests w n b e = is_of_test (tester_answer w n e.station (b e.station) (reply_to_test w n b e.kind e.station))
+
+-- the tests of each round that closes in the list, one number for each. `made` are those made before it in the round that is open at first
+unfoldable pub tests_of_closed : ℕ → ℕ → ℕ → Lines → List Entry → List ℕ
+tests_of_closed w n made b [] = []
+tests_of_closed w n made b (e ∷ es) =
+    let here = made + bit (board_tests w n b e) in
+    let closing = here ∷ tests_of_closed w n 0 (called_entry w n b e) es in
+    let going = tests_of_closed w n here (called_entry w n b e) es in
+    if all_finished n (called_act w n b e) then closing else going
+
+-- from the start of a round on
+abbrev pub closed_rounds : ℕ → ℕ → Lines → List Entry → List ℕ
+closed_rounds w n b es = tests_of_closed w n 0 b es
+
+-- nobody is live in the group of j at level s
+unfoldable pub nobody_live : ℕ → Lines → ℕ → ℕ → Bool
+nobody_live n b j s = every (λ k. not (is_present n (member j s k) && is_live (b (member j s k)))) (width s)
+
+-- the pairs of one of the n boards, live or not, and a level from 1 to d in whose group nobody is live
+unfoldable pub groups_without_live : ℕ → Lines → ℕ
+groups_without_live n b = sum_below (λ j. sum_below (λ h. bit (nobody_live n b j (suc h))) (dimension n)) n
+
+-- Rules Count of tests: on the cube n·d less these, on the ring n
+abbrev pub count_of_tests : ℕ → ℕ → Lines → ℕ
+count_of_tests w n b = if is_ring w then n else n * dimension n - groups_without_live n b
+
+-- Rule Boards detect, what is claimed, where so many rounds are enough
+pub record BoardsKnow (enough w n : ℕ) (b : Lines) (es : List Entry) : Type 0 where
+  -- the live boards are the same as at first
+  pub same_live : (i : ℕ) → i < n → is_live (called_entries w n b es i) ≡ is_live (b i)
+  -- once enough rounds have closed, the line of each live board suspects exactly the boards that are not live
+  pub exact_rows : enough ≤ length (closed_rounds w n b es) → (i j : ℕ) → i < n → j < n → is_live (b i) ≡ true
+      → suspicion_of (called_entries w n b es i) j ≡ bit (not (is_live (b j)))
+  -- each closed round after these has as many tests as the count says, on the ring each closed round
+  pub tests : (k : ℕ) → counted_from w enough ≤ k → k < length (closed_rounds w n b es)
+      → slice_index (closed_rounds w n b es) k ≡ count_of_tests w n b
+
+-- Rule Boards detect: within so many rounds by wiring and size
+abbrev pub BoardsDetect : (ℕ → ℕ → ℕ) → Type 0
+BoardsDetect rounds =
+    (w n : ℕ) (b : Lines) (es : List Entry) → BoardsBegin w n b → TurnsInTime w n b es → BoardsKnow (rounds w n) w n b es
+
+-- Rule Conditions are met: fresh boards meet what is supposed of boards, whatever their lines held before
+abbrev pub FreshBoardsBegin : Type 0
+FreshBoardsBegin =
+    (w n : ℕ) (b : Lines) → ((i : ℕ) → i < n → place_check w n i (length (b i)) ≡ Ok tt) → 2 ≤ n → BoardsBegin w n (λ i. fresh_after w n i (b i))
