@@ -1,7 +1,7 @@
 -- Boards detect: boards on a cable, each with its own line and nothing else, come to suspect just the boards that are not live. w is the wiring's
--- number, n the size, b k the line of board k, and es the entries that the boards take by their calls, one after the other (cable's CableRun).
+-- number, n the size, b k the line of board k, and es the entries that the boards take by their calls, one after the other (cable's Boards).
 -- Assumes nothing.
-use Rattle.std.specs.Prelude.{◌≡◌, ◌⊎◌, ℕ, suc, ◌+◌, ◌-◌, ◌*◌, ◌≤◌, ◌<◌, Bool, true, false, not, ◌&&◌, List, [], ◌∷◌, ◌++◌, length, Some, Result, Ok, Err, if◌then◌else◌, ◌==◌, slice_index}
+use Rattle.std.specs.Prelude.{◌≡◌, ◌⊎◌, ℕ, suc, ◌+◌, ◌-◌, ◌*◌, ◌≤◌, ◌<◌, Bool, true, false, not, ◌&&◌, List, [], ◌∷◌, ◌++◌, length, Some, Result, Ok, Err, if◌then◌else◌, slice_index}
 use Rattle.lists.specs.declared.refusal.Refusal.{Refusal}
 use Rattle.lists.specs.Search.{every}
 use Rattle.lists.specs.Sums.{sum_below, bit}
@@ -10,15 +10,12 @@ use Rattle.table.specs.Wiring.{is_ring}
 use Rattle.table.specs.Table.{next_column, finished_column, tests_column}
 use Rattle.table.specs.Line.{is_live}
 use Rattle.station.specs.Groups.{is_present, width, member}
-use Rattle.station.specs.Outcome.{outcome_finished}
 use Rattle.plant.specs.Turn.{kind_turn, kind_late}
-use Rattle.plant.specs.Entry.{Entry}
+use Rattle.plant.specs.Entry.{Entry, shows_test}
 use Rattle.detection.specs.Claim.{counted_from}
 use Rattle.board.specs.Board.{suspicion_of}
 use Rattle.board.specs.Calls.{place_check, line_check, turn_check, next_answer, fresh_after}
-use Rattle.cable.specs.Boards.{Lines, all_finished}
-use Rattle.cable.specs.Cable.{tester_answer}
-use Rattle.cable.specs.CableRun.{reply_to_test, called_act, called_entry, called_entries}
+use Rattle.cable.specs.Boards.{Lines, reply_to_test, tester_answer, after_act, all_finished, after_entry, after_entries}
 
 -- Rule Start of a round, of a board's line: next distance 1, not finished, no tests
 pub record StartsRound (l : List ℕ) : Type 0 where
@@ -48,11 +45,11 @@ pub record TurnInTime (w n : ℕ) (b : Lines) (e : Entry) : Type 0 where
 -- so it is of each entry of the list, as those before it leave the boards
 abbrev pub TurnsInTime : ℕ → ℕ → Lines → List Entry → Type 0
 TurnsInTime w n b es =
-    (before : List Entry) (e : Entry) (rest : List Entry) → es ≡ before ++ (e ∷ rest) → TurnInTime w n (called_entries w n b before) e
+    (before : List Entry) (e : Entry) (rest : List Entry) → es ≡ before ++ (e ∷ rest) → TurnInTime w n (after_entries w n b before) e
 
--- the outcome is that of a test: any but 0
+-- whether what the tester's call answers is the outcome of a test
 abbrev pub is_of_test : Result ℕ Refusal → Bool
-is_of_test (Ok outcome) = not (outcome == outcome_finished)
+is_of_test (Ok outcome) = shows_test outcome
 is_of_test (Err r) = false
 
 -- whether the turn makes a test, by what its board's call answers
@@ -64,9 +61,9 @@ unfoldable pub tests_of_closed : ℕ → ℕ → ℕ → Lines → List Entry �
 tests_of_closed w n made b [] = []
 tests_of_closed w n made b (e ∷ es) =
     let here = made + bit (board_tests w n b e) in
-    let closing = here ∷ tests_of_closed w n 0 (called_entry w n b e) es in
-    let going = tests_of_closed w n here (called_entry w n b e) es in
-    if all_finished n (called_act w n b e) then closing else going
+    let closing = here ∷ tests_of_closed w n 0 (after_entry w n b e) es in
+    let going = tests_of_closed w n here (after_entry w n b e) es in
+    if all_finished n (after_act w n b e) then closing else going
 
 -- from the start of a round on
 abbrev pub closed_rounds : ℕ → ℕ → Lines → List Entry → List ℕ
@@ -87,10 +84,10 @@ count_of_tests w n b = if is_ring w then n else n * dimension n - groups_without
 -- Rule Boards detect, what is claimed, where so many rounds are enough
 pub record BoardsKnow (enough w n : ℕ) (b : Lines) (es : List Entry) : Type 0 where
   -- the live boards are the same as at first
-  pub same_live : (i : ℕ) → i < n → is_live (called_entries w n b es i) ≡ is_live (b i)
+  pub same_live : (i : ℕ) → i < n → is_live (after_entries w n b es i) ≡ is_live (b i)
   -- once enough rounds have closed, the line of each live board suspects exactly the boards that are not live
   pub exact_rows : enough ≤ length (closed_rounds w n b es) → (i j : ℕ) → i < n → j < n → is_live (b i) ≡ true
-      → suspicion_of (called_entries w n b es i) j ≡ bit (not (is_live (b j)))
+      → suspicion_of (after_entries w n b es i) j ≡ bit (not (is_live (b j)))
   -- each closed round after these has as many tests as the count says, on the ring each closed round
   pub tests : (k : ℕ) → counted_from w enough ≤ k → k < length (closed_rounds w n b es)
       → slice_index (closed_rounds w n b es) k ≡ count_of_tests w n b

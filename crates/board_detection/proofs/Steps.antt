@@ -1,0 +1,138 @@
+-- Boards that hold what a table has take an entry that the table takes, and the round closes for both or for neither.
+-- Assumes nothing.
+use mathlib.Core.Path.{◌≡◌, refl, sym, ap, ◌∙◌}
+use mathlib.Core.Logic.{◌⊎◌, inl, inr}
+use mathlib.Core.Bool.{Bool, true, false, not, ◌&&◌, and-false, and-true}
+use mathlib.Core.List.{List, [], ◌∷◌, ◌++◌}
+use Prim.Native.Nat.{ℕ, suc, ◌+◌, ◌≤◌, ◌<◌}
+use native.Mathlib.Omega.{arith}
+use borrow.Author.Tests.{eqb-true, eqb-false, ne_eqb, eq-eqb, lt-ltb, le-leb, not-true}
+use lib.Dec.{eqb, leb}
+use lib.ListN.{length, get_or}
+use Rattle.std.specs.Prelude.{Some, Ok}
+use Rattle.lists.proofs.BoolLaws.{by_bool}
+use Rattle.lists.proofs.RefusalLaws.{ensure_ok, and_ok}
+use Rattle.lists.specs.Sums.{bit}
+use Rattle.table.specs.Table.{finished_column, finished, live}
+use Rattle.table.specs.Line.{line, is_live}
+use Rattle.table.specs.Rules.{round_over}
+use Rattle.table.proofs.Accepting.{Accepted}
+use Rattle.table.proofs.CellLaws.{accepted-line}
+use Rattle.table.proofs.LineLaws.{line_at}
+use Rattle.plant.specs.Turn.{kind_turn, kind_late, makes_test, turn_tested, turn_outcome, next_test, outcome_at}
+use Rattle.plant.specs.Round.{reset_lines, after_round}
+use Rattle.plant.specs.Entry.{Entry, State, tally_top, is_crash, is_test, entry_check, entry_refusal, acted, after, tested_of, outcome_of, shows_test}
+use Rattle.plant.proofs.RunLaws.{accepted-number, made-test}
+use Rattle.plant.proofs.RulesKept.{Takes, entry-facts, acted-lines, accepted-kept}
+use Rattle.plant.proofs.RoundLaws.{Reset, reset-cells}
+use Rattle.plant.proofs.TurnHeads.{turn-heads}
+use Rattle.plant.proofs.NextTest.{test-station}
+use Rattle.station.specs.Wired.{wired_station}
+use Rattle.detection.specs.Runs.{Taken, taken_test, is_late}
+use Rattle.detection.specs.Rounds.{closes}
+use Rattle.detection.proofs.TakenLaws.{taken_at}
+use Rattle.detection.proofs.Counting.{Counts, counts_start, turn-counts, closes-is}
+use Rattle.board.specs.Calls.{line_check, live_check, turn_check, next_answer}
+use Rattle.board.specs.Board.{next_station}
+use Rattle.cable.specs.Boards.{Lines, Hold, after_act, all_finished, after_entry}
+use Rattle.board_detection.specs.Detect.{TurnInTime, is_of_test, board_tests}
+use Rattle.board_detection.proofs.Stub.{over-same, act-held, entry-held, answer-same, place, next-line, tests-line}
+
+-- the board of such an entry is one of the plant, is live, and has not finished its pass
+record Going (w n i : ℕ) (l : List ℕ) : Type 0 where
+  below : i < n
+  alive : is_live l ≡ true
+  unfinished : get_or l finished_column 0 ≡ 1 → ⊥
+
+going : (w n i : ℕ) (l : List ℕ) → turn_check w n i l ≡ Ok tt → Going w n i l
+unfolding turn_check live_check line_check
+going w n i l e =
+    let p = and_ok _ _ tt e in
+    let q = and_ok _ _ tt p.0 in
+    let r = and_ok _ _ tt q.0 in
+    record {
+      below = (place w n i (length l) r.0).below;
+      alive = ensure_ok _ _ _ q.1;
+      unfinished = eqb-false _ 1 (not-true _ (ensure_ok _ _ _ p.1));
+    }
+
+module _ (w n : ℕ) (s : State) (b : Lines) (e : Entry) (a : Accepted w n s.table) (hold : Hold n s.table b) (rounds : tally_top < s.rounds)
+    (tests : tally_top < s.tests) (turn : TurnInTime w n b e) where
+  abbrev t : List ℕ
+  t = s.table
+
+  abbrev i : ℕ
+  i = e.station
+
+  abbrev x : Taken
+  x = taken_at w n s e
+
+  facts : Going w n i (b i)
+  facts = going w n i (b i) turn.taken
+
+  alive : live n t i ≡ true
+  alive = ap (λ (k : ℕ). eqb k 0) (sym (hold.statuses i facts.below)) ∙ facts.alive
+
+  mine : b i ≡ line n t i
+  mine = hold.live_lines i facts.below alive
+
+  unfinished : finished n t i ≡ 1 → ⊥
+  unfinished f = facts.unfinished (ap (λ (l : List ℕ). get_or l finished_column 0) mine ∙ line_at n t i finished_column (omega arith) ∙ f)
+
+  pub no_crash : is_crash e ≡ false
+  no_crash = pick turn.kind
+    where
+      pick : (e.kind ≡ kind_turn) ⊎ (e.kind ≡ kind_late) → is_crash e ≡ false
+      pick (inl k) = rw k
+      pick (inr k) = rw k
+
+  known : (leb 1 e.kind && leb e.kind 3) ≡ true
+  known = pick turn.kind
+    where
+      pick : (e.kind ≡ kind_turn) ⊎ (e.kind ≡ kind_late) → (leb 1 e.kind && leb e.kind 3) ≡ true
+      pick (inl k) = rw k
+      pick (inr k) = rw k
+
+  -- the table takes the entry
+  pub takes : entry_refusal n s e ≡ 0
+  unfolding entry_check
+  takes =
+      rw (
+        ne_eqb s.rounds tally_top (λ p. omega arith),
+        ne_eqb s.tests tally_top (λ p. omega arith),
+        known,
+        lt-ltb i n facts.below,
+        alive,
+        no_crash,
+        ne_eqb (finished n t i) 1 unfinished,
+      )
+
+  -- and no reply of a live station is late
+  pub in_time : is_late x ≡ false
+  unfolding tested_of turn_tested next_answer next_station
+  in_time = pick turn.kind
+    where
+      pick : (e.kind ≡ kind_turn) ⊎ (e.kind ≡ kind_late) → is_late x ≡ false
+      pick (inl k) = rw k
+      pick (inr k) =
+          by_bool (makes_test w n t i)
+          (λ m.
+          let j : ℕ = wired_station w n i (next_test w n t i) in
+          let j<n = test-station w n t i m a.long facts.below in
+          let named : next_answer w n i (b i) ≡ Ok (Some j) = rw (turn.taken, mine, tests-line n t i a.long facts.below w, m, next-line n t i a.long facts.below w) in
+          let silent : live n t j ≡ false = ap (λ (k : ℕ). eqb k 0) (sym (hold.statuses j j<n)) ∙ turn.no_late k j named in
+          rw (no_crash, m, silent, and-false))
+          (λ m. rw (no_crash, m, and-false))
+
+  -- both make a test, or neither does
+  pub test-same : board_tests w n b e ≡ taken_test x
+  unfolding outcome_of
+  test-same =
+      ap is_of_test (answer-same w n t b hold (accepted-number w n t a) e.kind i facts.below alive unfinished)
+      ∙ (rw no_crash at (made-test w n t e))
+
+  pub acts : Hold n (acted w n t e) (after_act w n b e)
+  acts = act-held w n s b hold e a takes
+
+  pub over : all_finished n (after_act w n b e) ≡ round_over n (acted w n t e)
+  over = over-same n (acted w n t e) (after_act w n b e) acts
