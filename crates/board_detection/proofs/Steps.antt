@@ -26,6 +26,7 @@ use Rattle.plant.proofs.RunLaws.{accepted-number, made-test}
 use Rattle.plant.proofs.RulesKept.{Takes, entry-facts, acted-lines, accepted-kept}
 use Rattle.plant.proofs.RoundLaws.{Reset, reset-cells}
 use Rattle.plant.proofs.TurnHeads.{turn-heads}
+use Rattle.plant.proofs.StepLines.{Lines as Lines'}
 use Rattle.plant.proofs.NextTest.{test-station}
 use Rattle.station.specs.Wired.{wired_station}
 use Rattle.detection.specs.Runs.{Taken, taken_test, is_late}
@@ -109,7 +110,7 @@ module _ (w n : ℕ) (s : State) (b : Lines) (e : Entry) (a : Accepted w n s.tab
 
   -- and no reply of a live station is late
   pub in_time : is_late x ≡ false
-  unfolding tested_of turn_tested next_answer next_station
+  unfolding tested_of turn_tested next_station
   in_time = pick turn.kind
     where
       pick : (e.kind ≡ kind_turn) ⊎ (e.kind ≡ kind_late) → is_late x ≡ false
@@ -128,11 +129,32 @@ module _ (w n : ℕ) (s : State) (b : Lines) (e : Entry) (a : Accepted w n s.tab
   pub test-same : board_tests w n b e ≡ taken_test x
   unfolding outcome_of
   test-same =
+      let made : taken_test x ≡ makes_test w n t i = rw no_crash in
       ap is_of_test (answer-same w n t b hold (accepted-number w n t a) e.kind i facts.below alive unfinished)
-      ∙ (rw no_crash at (made-test w n t e))
+      ∙ (rw no_crash at (made-test w n t e)) ∙ sym made
 
   pub acts : Hold n (acted w n t e) (after_act w n b e)
   acts = act-held w n s b hold e a takes
 
   pub over : all_finished n (after_act w n b e) ≡ round_over n (acted w n t e)
   over = over-same n (acted w n t e) (after_act w n b e) acts
+
+  -- in a round that started with t₀ and has the entries `cur` so far
+  module _ (t₀ : List ℕ) (cur : List Taken) (fresh : (k : ℕ) → k < n → Reset n t₀ k) (counts : Counts n t₀ cur t) where
+    abbrev t' : List ℕ
+    t' = acted w n t e
+
+    abbrev here : List Taken
+    here = cur ++ (x ∷ [])
+
+    pub counted : Counts n t₀ here t'
+    unfolding acted
+    counted =
+        let lines : Lines' w n t = (a.long, accepted-line w n t a) in
+        let zero-yet : finished n t i ≡ 0 = omega (arith, unfinished, (lines.1 i facts.below).pass.finished_range) in
+        rw no_crash (turn-counts w n s e (outcome_at w n t e.kind i (next_test w n t i)) t₀ _ cur no_crash facts.below zero-yet
+        (turn-heads w n t e.kind i lines facts.below) counts)
+
+    -- the round closes as the boards find
+    pub closing-same : closes here x ≡ all_finished n (after_act w n b e)
+    closing-same = closes-is w n t₀ t' here fresh (acted-lines w n s e a takes) counted s e refl ∙ sym over

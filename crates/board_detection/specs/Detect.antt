@@ -1,7 +1,7 @@
 -- Boards detect: boards on a cable, each with its own line and nothing else, come to suspect just the boards that are not live. w is the wiring's
 -- number, n the size, b k the line of board k, and es the entries that the boards take by their calls, one after the other (cable's Boards).
 -- Assumes nothing.
-use Rattle.std.specs.Prelude.{◌≡◌, ◌⊎◌, ℕ, suc, ◌+◌, ◌-◌, ◌*◌, ◌≤◌, ◌<◌, Bool, true, false, not, ◌&&◌, List, [], ◌∷◌, ◌++◌, length, Some, Result, Ok, Err, if◌then◌else◌, slice_index}
+use Rattle.std.specs.Prelude.{◌≡◌, ◌⊎◌, ℕ, suc, ◌+◌, ◌-◌, ◌*◌, ◌≤◌, ◌<◌, Bool, true, false, not, ◌&&◌, List, [], ◌∷◌, ◌++◌, length, Some, Result, Ok, Err, if◌then◌else◌, ◌==◌, slice_index}
 use Rattle.lists.specs.declared.refusal.Refusal.{Refusal}
 use Rattle.lists.specs.Search.{every}
 use Rattle.lists.specs.Sums.{sum_below, bit}
@@ -56,18 +56,26 @@ is_of_test (Err r) = false
 abbrev pub board_tests : ℕ → ℕ → Lines → Entry → Bool
 board_tests w n b e = is_of_test (tester_answer w n e.station (b e.station) (reply_to_test w n b e.kind e.station))
 
--- the tests of each round that closes in the list, one number for each. `made` are those made before it in the round that is open at first
-unfoldable pub tests_of_closed : ℕ → ℕ → ℕ → Lines → List Entry → List ℕ
-tests_of_closed w n made b [] = []
-tests_of_closed w n made b (e ∷ es) =
-    let here = made + bit (board_tests w n b e) in
-    let closing = here ∷ tests_of_closed w n 0 (after_entry w n b e) es in
-    let going = tests_of_closed w n here (after_entry w n b e) es in
+-- how many entries pass q in each round, from the first on; the last round is the one that is open after the list. A round closes with the entry
+-- after which some board is live, and each live one has finished its pass. In the round that is open at first `so_far` entries before passed
+unfoldable pub counts_from : (Lines → Entry → Bool) → ℕ → ℕ → ℕ → Lines → List Entry → List ℕ
+counts_from q w n so_far b [] = so_far ∷ []
+counts_from q w n so_far b (e ∷ es) =
+    let here = so_far + bit (q b e) in
+    let closing = here ∷ counts_from q w n 0 (after_entry w n b e) es in
+    let going = counts_from q w n here (after_entry w n b e) es in
     if all_finished n (after_act w n b e) then closing else going
 
--- from the start of a round on
-abbrev pub closed_rounds : ℕ → ℕ → Lines → List Entry → List ℕ
-closed_rounds w n b es = tests_of_closed w n 0 b es
+-- the tests of each round, and the turns of board i in each round, from the start of a round on
+abbrev pub tests_by_round : ℕ → ℕ → Lines → List Entry → List ℕ
+tests_by_round w n b es = counts_from (board_tests w n) w n 0 b es
+
+abbrev pub turns_by_round : ℕ → ℕ → ℕ → Lines → List Entry → List ℕ
+turns_by_round w n i b es = counts_from (λ b e. e.station == i) w n 0 b es
+
+-- how many rounds close in the list: all but the last
+abbrev pub closed_rounds : ℕ → ℕ → Lines → List Entry → ℕ
+closed_rounds w n b es = length (tests_by_round w n b es) - 1
 
 -- nobody is live in the group of j at level s
 unfoldable pub nobody_live : ℕ → Lines → ℕ → ℕ → Bool
@@ -85,12 +93,13 @@ count_of_tests w n b = if is_ring w then n else n * dimension n - groups_without
 pub record BoardsKnow (enough w n : ℕ) (b : Lines) (es : List Entry) : Type 0 where
   -- the live boards are the same as at first
   pub same_live : (i : ℕ) → i < n → is_live (after_entries w n b es i) ≡ is_live (b i)
+  -- in every round, the open one included, a live board has at most n turns
+  pub turns : (k i : ℕ) → k ≤ closed_rounds w n b es → i < n → is_live (b i) ≡ true → slice_index (turns_by_round w n i b es) k ≤ n
   -- once enough rounds have closed, the line of each live board suspects exactly the boards that are not live
-  pub exact_rows : enough ≤ length (closed_rounds w n b es) → (i j : ℕ) → i < n → j < n → is_live (b i) ≡ true
+  pub exact_rows : enough ≤ closed_rounds w n b es → (i j : ℕ) → i < n → j < n → is_live (b i) ≡ true
       → suspicion_of (after_entries w n b es i) j ≡ bit (not (is_live (b j)))
   -- each closed round after these has as many tests as the count says, on the ring each closed round
-  pub tests : (k : ℕ) → counted_from w enough ≤ k → k < length (closed_rounds w n b es)
-      → slice_index (closed_rounds w n b es) k ≡ count_of_tests w n b
+  pub tests : (k : ℕ) → counted_from w enough ≤ k → k < closed_rounds w n b es → slice_index (tests_by_round w n b es) k ≡ count_of_tests w n b
 
 -- Rule Boards detect: within so many rounds by wiring and size
 abbrev pub BoardsDetect : (ℕ → ℕ → ℕ) → Type 0

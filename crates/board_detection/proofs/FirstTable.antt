@@ -1,0 +1,101 @@
+-- The table of boards that begin: the detection conditions hold of it.
+-- Assumes nothing.
+use mathlib.Core.Path.{◌≡◌, refl, sym, ap, ◌∙◌}
+use mathlib.Core.Bool.{Bool, true, false, not, ◌&&◌}
+use mathlib.Core.List.{List, []}
+use Prim.Native.Nat.{ℕ, zero, suc, ◌+◌, ◌≤◌, ◌<◌}
+use native.Mathlib.Omega.{arith}
+use borrow.Author.Tests.{eq-eqb, ltb-true}
+use lib.Dec.{eqb, ltb}
+use lib.ListN.{length, get_or}
+use Rattle.lists.proofs.BoolLaws.{by_bool, every-same}
+use Rattle.lists.proofs.RefusalLaws.{and_ok}
+use Rattle.lists.proofs.SearchLaws.{every-all}
+use Rattle.lists.proofs.SumLaws.{sum_by, sum-not}
+use Rattle.lists.specs.Sums.{bit}
+use Rattle.table.specs.Sizes.{dimension}
+use Rattle.table.specs.Wiring.{is_ring}
+use Rattle.table.specs.Table.{head, stride, table_length, cell, status_column, next_column, finished_column, tests_column, suspects, live}
+use Rattle.table.specs.Line.{line, is_live}
+use Rattle.table.specs.Properties.{line_at_start, at_start, live_count, no_live_suspicion, none_suspected}
+use Rattle.table.proofs.Accepting.{Accepted, accepted}
+use Rattle.table.proofs.LineLaws.{line_at}
+use Rattle.station.specs.Groups.{is_present, width, member}
+use Rattle.plant.proofs.RoundLaws.{Reset}
+use Rattle.plant.proofs.RulesKept.{unfinished-open}
+use Rattle.detection.specs.Claim.{group_without_live, pairs_without_live, count_of}
+use Rattle.board.specs.Calls.{line_check}
+use Rattle.cable.specs.Boards.{Lines, Hold, all_finished, table_of}
+use Rattle.board_detection.specs.Detect.{live_boards, BoardsBegin, nobody_live, groups_without_live, count_of_tests}
+use Rattle.board_detection.proofs.Stub.{over-same, table-line, boards-make-a-table, place}
+
+module _ (w n : ℕ) (b : Lines) (begin : BoardsBegin w n b) where
+  abbrev t : List ℕ
+  t = table_of n b
+
+  pub some : 2 ≤ n
+  unfolding live_boards
+  some = omega (arith, begin.two_live, sum-not (λ i. is_live (b i)) n)
+
+  line-is : (k : ℕ) → k < n → line n t k ≡ b k
+  unfolding line_check
+  line-is k h = table-line n b k h (place w n k (length (b k)) (and_ok _ _ tt (begin.lines k h)).0).long
+
+  byte : (k c : ℕ) → k < n → c < stride n → cell n t k c ≡ get_or (b k) c 0
+  byte k c h hc = sym (line_at n t k c hc) ∙ ap (λ (l : List ℕ). get_or l c 0) (line-is k h)
+
+  pub hold : Hold n t b
+  hold = record { statuses = λ k h. sym (byte k status_column h (omega arith)); live_lines = λ k h l. sym (line-is k h) }
+
+  pub live-is : (k : ℕ) → k < n → live n t k ≡ is_live (b k)
+  live-is k h = ap (λ (x : ℕ). eqb x 0) (byte k status_column h (omega arith))
+
+  pub fresh : (k : ℕ) → k < n → Reset n t k
+  fresh k h = record {
+    next = byte k next_column h (omega arith) ∙ (begin.start k h).next;
+    unfinished = byte k finished_column h (omega arith) ∙ (begin.start k h).unfinished;
+    untested = byte k tests_column h (omega arith) ∙ (begin.start k h).untested;
+  }
+
+  pub ok : Accepted w n t
+  ok =
+      accepted w n t
+      (boards-make-a-table w n b (omega (arith, some)) begin.lines (over-same n t b hold ∙ unfinished-open n t (λ k h. (fresh k h).unfinished))).0
+
+  pub start : at_start n t ≡ true
+  unfolding at_start
+  start =
+      every-all (line_at_start n t) n (λ k h.
+      let f = fresh k h in
+      rw (eq-eqb _ 1 f.next, eq-eqb _ 0 f.unfinished, eq-eqb _ 0 f.untested))
+
+  pub two_live : 2 ≤ live_count n t
+  unfolding live_count live_boards
+  two_live = omega (arith, begin.two_live, sum_by n (λ k h. ap bit (live-is k h)))
+
+  pub none : none_suspected n t ≡ true
+  unfolding none_suspected
+  none =
+      every-all _ n (λ i h. every-all (no_live_suspicion n t i) n (λ j g.
+      by_bool (is_live (b i))
+      (λ p. by_bool (is_live (b j))
+      (λ q.
+      let zero-byte : suspects n t i j ≡ 0 = byte i (head + j) h (omega arith) ∙ begin.accurate i j h g p q in
+      rw (live-is i h ∙ p, live-is j g ∙ q, zero-byte))
+      (λ q. rw (live-is i h ∙ p, live-is j g ∙ q)))
+      (λ p. rw (live-is i h ∙ p))))
+
+  -- the count of tests is the same
+  group-is : (j s : ℕ) → group_without_live n t j s ≡ nobody_live n b j s
+  unfolding group_without_live nobody_live
+  group-is j s = every-same _ _ (width s) (λ k h. ap not (at (member j s k)))
+    where
+      at : (x : ℕ) → (ltb x n && live n t x) ≡ (ltb x n && is_live (b x))
+      at x = by_bool (ltb x n) (λ p. rw p (live-is x (ltb-true x n p))) (λ p. rw p)
+
+  pub count-is : count_of w n t ≡ count_of_tests w n b
+  unfolding pairs_without_live groups_without_live
+  count-is =
+      let pairs : pairs_without_live n t ≡ groups_without_live n b =
+      sum_by n (λ j h. sum_by (dimension n) (λ s g. ap bit (group-is j (suc s)))) in
+      rw pairs
