@@ -9,7 +9,6 @@ use borrow.Author.Tests.{eq-eqb, ltb-true}
 use lib.Dec.{eqb, ltb}
 use lib.ListN.{length, get_or}
 use Rattle.lists.proofs.BoolLaws.{by_bool, every-same}
-use Rattle.lists.proofs.RefusalLaws.{and_ok}
 use Rattle.lists.proofs.SearchLaws.{every-all}
 use Rattle.lists.proofs.SumLaws.{sum_by, sum-not}
 use Rattle.lists.specs.Sums.{bit}
@@ -23,11 +22,13 @@ use Rattle.table.proofs.LineLaws.{line_at}
 use Rattle.station.specs.Groups.{is_present, width, member}
 use Rattle.plant.proofs.RoundLaws.{Reset}
 use Rattle.plant.proofs.RulesKept.{unfinished-open}
-use Rattle.detection.specs.Claim.{group_without_live, pairs_without_live, count_of}
+use Rattle.detection.specs.Claim.{stands_at, nobody_live_by, group_without_live, pairs_by, pairs_without_live, count_of}
 use Rattle.board.specs.Calls.{line_check}
 use Rattle.cable.specs.Boards.{Lines, Hold, all_finished, table_of}
-use Rattle.board_detection.specs.Detect.{live_boards, BoardsBegin, nobody_live, groups_without_live, count_of_tests}
-use Rattle.board_detection.proofs.Stub.{over-same, table-line, boards-make-a-table, place}
+use Rattle.cable.proofs.LineFacts.{let-through}
+use Rattle.cable.proofs.HoldLaws.{live-same, over-same}
+use Rattle.cable.proofs.TableOf.{table-line, boards-make-a-table}
+use Rattle.board_detection.specs.Detect.{live_boards, BoardsBegin, count_of_tests}
 
 module _ (w n : ℕ) (b : Lines) (begin : BoardsBegin w n b) where
   abbrev t : List ℕ
@@ -38,8 +39,7 @@ module _ (w n : ℕ) (b : Lines) (begin : BoardsBegin w n b) where
   some = omega (arith, begin.two_live, sum-not (λ i. is_live (b i)) n)
 
   line-is : (k : ℕ) → k < n → line n t k ≡ b k
-  unfolding line_check
-  line-is k h = table-line n b k h (place w n k (length (b k)) (and_ok _ _ tt (begin.lines k h)).0).long
+  line-is k h = table-line n b k h (let-through w n k (b k) (begin.lines k h)).0.long
 
   byte : (k c : ℕ) → k < n → c < stride n → cell n t k c ≡ get_or (b k) c 0
   byte k c h hc = sym (line_at n t k c hc) ∙ ap (λ (l : List ℕ). get_or l c 0) (line-is k h)
@@ -48,7 +48,7 @@ module _ (w n : ℕ) (b : Lines) (begin : BoardsBegin w n b) where
   hold = record { statuses = λ k h. sym (byte k status_column h (omega arith)); live_lines = λ k h l. sym (line-is k h) }
 
   pub live-is : (k : ℕ) → k < n → live n t k ≡ is_live (b k)
-  live-is k h = ap (λ (x : ℕ). eqb x 0) (byte k status_column h (omega arith))
+  live-is k h = sym (live-same n t b hold k h)
 
   pub fresh : (k : ℕ) → k < n → Reset n t k
   fresh k h = record {
@@ -86,16 +86,12 @@ module _ (w n : ℕ) (b : Lines) (begin : BoardsBegin w n b) where
       (λ p. rw (live-is i h ∙ p))))
 
   -- the count of tests is the same
-  group-is : (j s : ℕ) → group_without_live n t j s ≡ nobody_live n b j s
-  unfolding group_without_live nobody_live
-  group-is j s = every-same _ _ (width s) (λ k h. ap not (at (member j s k)))
-    where
-      at : (x : ℕ) → (ltb x n && live n t x) ≡ (ltb x n && is_live (b x))
-      at x = by_bool (ltb x n) (λ p. rw p (live-is x (ltb-true x n p))) (λ p. rw p)
-
   pub count-is : count_of w n t ≡ count_of_tests w n b
-  unfolding pairs_without_live groups_without_live
+  unfolding group_without_live pairs_without_live count_of_tests
   count-is =
-      let pairs : pairs_without_live n t ≡ groups_without_live n b =
-      sum_by n (λ j h. sum_by (dimension n) (λ s g. ap bit (group-is j (suc s)))) in
+      let pairs : pairs_without_live n t ≡ pairs_by n (nobody_live_by n (λ k. is_live (b k))) =
+      sum_by n (λ j h. sum_by (dimension n) (λ s g. ap bit (every-same _ _ (width (suc s)) (λ k l. ap not (at (member j (suc s) k)))))) in
       rw pairs
+    where
+      at : (x : ℕ) → stands_at n (live n t) x ≡ stands_at n (λ k. is_live (b k)) x
+      at x = by_bool (ltb x n) (λ p. rw p (live-is x (ltb-true x n p))) (λ p. rw p)

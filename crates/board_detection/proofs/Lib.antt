@@ -1,5 +1,6 @@
-pub mod Stub
+-- The laws of the crate.
 pub mod Steps
 pub mod Rounds
 pub mod FirstTable
 pub mod BoardsDetect
+pub mod FreshBegin

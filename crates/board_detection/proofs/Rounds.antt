@@ -23,8 +23,8 @@ use Rattle.detection.specs.Claim.{all_rounds}
 use Rattle.detection.proofs.TakenLaws.{taken_at, count-snoc}
 use Rattle.detection.proofs.Counting.{Counts, counts_start}
 use Rattle.cable.specs.Boards.{Lines, Hold, after_act, all_finished, after_entry, after_entries}
+use Rattle.cable.proofs.RunByCalls.{entry-held}
 use Rattle.board_detection.specs.Detect.{TurnInTime, TurnsInTime, board_tests, counts_from}
-use Rattle.board_detection.proofs.Stub.{entry-held}
 use Rattle.board_detection.proofs.Steps.{no_crash, takes, in_time, test-same, over, counted, closing-same}
 
 -- boards and a table that they hold, in a round that started with t₀ and has the entries `cur` so far. The tally is above its top, so that it is

@@ -15,7 +15,7 @@ use Rattle.lists.proofs.RefusalLaws.{ensure_ok, and_ok}
 use Rattle.lists.specs.Sums.{bit}
 use Rattle.table.specs.Table.{finished_column, finished, live}
 use Rattle.table.specs.Line.{line, is_live}
-use Rattle.table.specs.Rules.{round_over}
+use Rattle.table.specs.Rules.{round_over, numbered_table_refusal}
 use Rattle.table.proofs.Accepting.{Accepted}
 use Rattle.table.proofs.CellLaws.{accepted-line}
 use Rattle.table.proofs.LineLaws.{line_at}
@@ -36,8 +36,12 @@ use Rattle.detection.proofs.Counting.{Counts, counts_start, turn-counts, closes-
 use Rattle.board.specs.Calls.{line_check, live_check, turn_check, next_answer}
 use Rattle.board.specs.Board.{next_station}
 use Rattle.cable.specs.Boards.{Lines, Hold, after_act, all_finished, after_entry}
+use Rattle.cable.proofs.LineFacts.{let-through}
+use Rattle.cable.proofs.HoldLaws.{live-same, over-same}
+use Rattle.cable.proofs.TurnByLines.{tested-below}
+use Rattle.cable.proofs.CallsOnCable.{asks}
+use Rattle.cable.proofs.RunByCalls.{tester-answers, acting}
 use Rattle.board_detection.specs.Detect.{TurnInTime, is_of_test, board_tests}
-use Rattle.board_detection.proofs.Stub.{over-same, act-held, entry-held, answer-same, place, next-line, tests-line}
 
 -- the board of such an entry is one of the plant, is live, and has not finished its pass
 record Going (w n i : ℕ) (l : List ℕ) : Type 0 where
@@ -46,13 +50,12 @@ record Going (w n i : ℕ) (l : List ℕ) : Type 0 where
   unfinished : get_or l finished_column 0 ≡ 1 → ⊥
 
 going : (w n i : ℕ) (l : List ℕ) → turn_check w n i l ≡ Ok tt → Going w n i l
-unfolding turn_check live_check line_check
+unfolding turn_check live_check
 going w n i l e =
     let p = and_ok _ _ tt e in
     let q = and_ok _ _ tt p.0 in
-    let r = and_ok _ _ tt q.0 in
     record {
-      below = (place w n i (length l) r.0).below;
+      below = (let-through w n i l q.0).0.below;
       alive = ensure_ok _ _ _ q.1;
       unfinished = eqb-false _ 1 (not-true _ (ensure_ok _ _ _ p.1));
     }
@@ -68,11 +71,14 @@ module _ (w n : ℕ) (s : State) (b : Lines) (e : Entry) (a : Accepted w n s.tab
   abbrev x : Taken
   x = taken_at w n s e
 
+  z : numbered_table_refusal w n t ≡ 0
+  z = accepted-number w n t a
+
   facts : Going w n i (b i)
   facts = going w n i (b i) turn.taken
 
   alive : live n t i ≡ true
-  alive = ap (λ (k : ℕ). eqb k 0) (sym (hold.statuses i facts.below)) ∙ facts.alive
+  alive = sym (live-same n t b hold i facts.below) ∙ facts.alive
 
   mine : b i ≡ line n t i
   mine = hold.live_lines i facts.below alive
@@ -110,7 +116,7 @@ module _ (w n : ℕ) (s : State) (b : Lines) (e : Entry) (a : Accepted w n s.tab
 
   -- and no reply of a live station is late
   pub in_time : is_late x ≡ false
-  unfolding tested_of turn_tested next_station
+  unfolding tested_of
   in_time = pick turn.kind
     where
       pick : (e.kind ≡ kind_turn) ⊎ (e.kind ≡ kind_late) → is_late x ≡ false
@@ -118,11 +124,11 @@ module _ (w n : ℕ) (s : State) (b : Lines) (e : Entry) (a : Accepted w n s.tab
       pick (inr k) =
           by_bool (makes_test w n t i)
           (λ m.
-          let j : ℕ = wired_station w n i (next_test w n t i) in
-          let j<n = test-station w n t i m a.long facts.below in
-          let named : next_answer w n i (b i) ≡ Ok (Some j) = rw (turn.taken, mine, tests-line n t i a.long facts.below w, m, next-line n t i a.long facts.below w) in
-          let silent : live n t j ≡ false = ap (λ (k : ℕ). eqb k 0) (sym (hold.statuses j j<n)) ∙ turn.no_late k j named in
-          rw (no_crash, m, silent, and-false))
+          let j : ℕ = turn_tested w n t i in
+          let named : next_answer w n i (b i) ≡ Ok (Some j) = rw mine (asks w n t e.kind i z facts.below alive unfinished m) in
+          let dead : live n t j ≡ false =
+          sym (live-same n t b hold j (tested-below w n t i a.long facts.below m)) ∙ turn.no_late k j named in
+          rw (no_crash, m, dead, and-false))
           (λ m. rw (no_crash, m, and-false))
 
   -- both make a test, or neither does
@@ -130,11 +136,11 @@ module _ (w n : ℕ) (s : State) (b : Lines) (e : Entry) (a : Accepted w n s.tab
   unfolding outcome_of
   test-same =
       let made : taken_test x ≡ makes_test w n t i = rw no_crash in
-      ap is_of_test (answer-same w n t b hold (accepted-number w n t a) e.kind i facts.below alive unfinished)
+      ap is_of_test (tester-answers w n t b hold z e.kind i facts.below alive unfinished)
       ∙ (rw no_crash at (made-test w n t e)) ∙ sym made
 
   pub acts : Hold n (acted w n t e) (after_act w n b e)
-  acts = act-held w n s b hold e a takes
+  acts = acting w n s b hold e a takes
 
   pub over : all_finished n (after_act w n b e) ≡ round_over n (acted w n t e)
   over = over-same n (acted w n t e) (after_act w n b e) acts

@@ -3,16 +3,12 @@
 -- Assumes nothing.
 use Rattle.std.specs.Prelude.{◌≡◌, ◌⊎◌, ℕ, suc, ◌+◌, ◌-◌, ◌*◌, ◌≤◌, ◌<◌, Bool, true, false, not, ◌&&◌, List, [], ◌∷◌, ◌++◌, length, Some, Result, Ok, Err, if◌then◌else◌, ◌==◌, slice_index}
 use Rattle.lists.specs.declared.refusal.Refusal.{Refusal}
-use Rattle.lists.specs.Search.{every}
 use Rattle.lists.specs.Sums.{sum_below, bit}
-use Rattle.table.specs.Sizes.{dimension}
-use Rattle.table.specs.Wiring.{is_ring}
 use Rattle.table.specs.Table.{next_column, finished_column, tests_column}
 use Rattle.table.specs.Line.{is_live}
-use Rattle.station.specs.Groups.{is_present, width, member}
 use Rattle.plant.specs.Turn.{kind_turn, kind_late}
 use Rattle.plant.specs.Entry.{Entry, shows_test}
-use Rattle.detection.specs.Claim.{counted_from}
+use Rattle.detection.specs.Claim.{nobody_live_by, pairs_by, count_by, counted_from}
 use Rattle.board.specs.Board.{suspicion_of}
 use Rattle.board.specs.Calls.{place_check, line_check, turn_check, next_answer, fresh_after}
 use Rattle.cable.specs.Boards.{Lines, reply_to_test, tester_answer, after_act, all_finished, after_entry, after_entries}
@@ -77,17 +73,10 @@ turns_by_round w n i b es = counts_from (λ b e. e.station == i) w n 0 b es
 abbrev pub closed_rounds : ℕ → ℕ → Lines → List Entry → ℕ
 closed_rounds w n b es = length (tests_by_round w n b es) - 1
 
--- nobody is live in the group of j at level s
-unfoldable pub nobody_live : ℕ → Lines → ℕ → ℕ → Bool
-nobody_live n b j s = every (λ k. not (is_present n (member j s k) && is_live (b (member j s k)))) (width s)
-
--- the pairs of one of the n boards, live or not, and a level from 1 to d in whose group nobody is live
-unfoldable pub groups_without_live : ℕ → Lines → ℕ
-groups_without_live n b = sum_below (λ j. sum_below (λ h. bit (nobody_live n b j (suc h))) (dimension n)) n
-
--- Rules Count of tests: on the cube n·d less these, on the ring n
-abbrev pub count_of_tests : ℕ → ℕ → Lines → ℕ
-count_of_tests w n b = if is_ring w then n else n * dimension n - groups_without_live n b
+-- Rule Count of tests, by which boards are live: on the cube n·d less one for each board and each level at which its group has no live board, on the
+-- ring n
+unfoldable pub count_of_tests : ℕ → ℕ → Lines → ℕ
+count_of_tests w n b = count_by w n (pairs_by n (nobody_live_by n (λ k. is_live (b k))))
 
 -- Rule Boards detect, what is claimed, where so many rounds are enough
 pub record BoardsKnow (enough w n : ℕ) (b : Lines) (es : List Entry) : Type 0 where
@@ -109,4 +98,4 @@ BoardsDetect rounds =
 -- Rule Conditions are met: fresh boards meet what is supposed of boards, whatever their lines held before
 abbrev pub FreshBoardsBegin : Type 0
 FreshBoardsBegin =
-    (w n : ℕ) (b : Lines) → ((i : ℕ) → i < n → place_check w n i (length (b i)) ≡ Ok tt) → 2 ≤ n → BoardsBegin w n (λ i. fresh_after w n i (b i))
+    (w n : ℕ) (b : Lines) → ((i : ℕ) → i < n → place_check w n i (length (b i)) ≡ Ok tt) → 0 < n → BoardsBegin w n (λ i. fresh_after w n i (b i))
