@@ -1,31 +1,30 @@
 -- Boards detect: detection's claim of the run of the boards' entries on their table, carried back to the boards.
 -- Assumes nothing.
 use mathlib.Core.Path.{◌≡◌, refl, sym, ap, ◌∙◌}
-use mathlib.Core.Bool.{Bool, true, false, not}
-use mathlib.Core.List.{List, [], ◌∷◌, ◌++◌, map}
-use Prim.Native.Nat.{ℕ, suc, ◌+◌, ◌*◌, ◌-◌, ◌%◌, ◌≤◌, ◌<◌}
+use mathlib.Core.Bool.{Bool, true, not}
+use mathlib.Core.List.{List, [], ◌∷◌, map}
+use Prim.Native.Nat.{ℕ, suc, ◌+◌, ◌*◌, ◌%◌, ◌≤◌, ◌<◌}
 use native.Mathlib.Omega.{arith}
-use borrow.Author.Tests.{eq-eqb, ne_eqb}
+use borrow.Author.Tests.{eq-eqb}
 use lib.Dec.{eqb}
 use lib.ListN.{length, get_or, length-append, length-replicate, get_or-append, replicate}
 use Rattle.std.proofs.lemmas.List.{append-nil, length-map, get_or-map}
 use Rattle.lists.specs.Sums.{bit}
 use Rattle.lists.proofs.RefusalLaws.{check_zero}
-use Rattle.table.specs.Table.{head, suspects, live}
+use Rattle.table.specs.Table.{head, live}
 use Rattle.table.specs.Line.{line, is_live}
 use Rattle.table.specs.Rules.{numbered_table_check}
 use Rattle.table.proofs.LineLaws.{line_at}
-use Rattle.plant.specs.Entry.{Entry, State, state_of, entry_of, tally_top}
+use Rattle.plant.specs.Entry.{Entry, State, state_of, tally_top}
 use Rattle.plant.specs.Run.{entries, start_check, start_refusal, go_on, run}
 use Rattle.plant.proofs.RunLaws.{accepted-number}
 use Rattle.detection.specs.Runs.{Call, Taken, call_of, after_run, after_runs, taken_from, taken_in, taken_all, taken_test, is_turn_of}
-use Rattle.detection.specs.Rounds.{count_taken, cut, tests_in, turns_in}
-use Rattle.detection.specs.Claim.{rounds_of, all_rounds, round_at, counted_from, DetectionPremises, DetectionConclusion, Detection, square_rounds, triangle_rounds, worst_rounds}
+use Rattle.detection.specs.Rounds.{count_taken, tests_in}
+use Rattle.detection.specs.Claim.{rounds_of, all_rounds, round_at, DetectionPremises, DetectionConclusion, Detection, square_rounds, triangle_rounds, worst_rounds}
 use Rattle.detection.proofs.Counting.{counts_start}
 use Rattle.detection.proofs.DetectionClaim.{detection-in-square, detection-in-triangle, detection-in-worst-case}
 use Rattle.cable.specs.Boards.{Lines, Hold, after_entries, table_of}
-use Rattle.board.specs.Board.{suspicion_of}
-use Rattle.board_detection.specs.Detect.{BoardsBegin, TurnsInTime, board_tests, counts_from, tests_by_round, turns_by_round, closed_rounds, count_of_tests, BoardsKnow, BoardsDetect}
+use Rattle.board_detection.specs.Detect.{BoardsBegin, TurnsInTime, board_tests, counts_by_round, closed_rounds, BoardsKnow, BoardsDetect}
 use Rattle.board_detection.proofs.Rounds.{Beside, Alike, SameRounds, same-rounds, tests-alike, turns-alike}
 use Rattle.board_detection.proofs.FirstTable.{hold, live-is, fresh, ok, start, two_live, none, count-is}
 
@@ -111,16 +110,16 @@ module _ (w n : ℕ) (b : Lines) (es : List Entry) (begin : BoardsBegin w n b) (
 
   -- counts by rounds, of the boards and of the table
   module _ (q : Lines → Entry → Bool) (r : Taken → Bool) (alike : Alike w n q r) where
-    counts-are : map (count_taken r) (all_rounds (rounds_of s calls)) ≡ counts_from q w n 0 b es
+    counts-are : map (count_taken r) (all_rounds (rounds_of s calls)) ≡ counts_by_round q w n 0 b es
     unfolding count_taken
     counts-are = rw all-taken (same.counts q r alike)
 
-    counts-long : length (counts_from q w n 0 b es) ≡ suc (length (rounds_of s calls).closed)
+    counts-long : length (counts_by_round q w n 0 b es) ≡ suc (length (rounds_of s calls).closed)
     counts-long =
         ap length (sym counts-are) ∙ length-map (all_rounds (rounds_of s calls)) (count_taken r)
         ∙ (length-append (rounds_of s calls).closed ((rounds_of s calls).open_round ∷ []) ∙ omega arith)
 
-    count-at : (k : ℕ) → k ≤ length (rounds_of s calls).closed → get_or (counts_from q w n 0 b es) k 0 ≡ count_taken r (round_at s calls k)
+    count-at : (k : ℕ) → k ≤ length (rounds_of s calls).closed → get_or (counts_by_round q w n 0 b es) k 0 ≡ count_taken r (round_at s calls k)
     count-at k h =
         ap (λ (l : List ℕ). get_or l k 0) (sym counts-are)
         ∙ get_or-map (count_taken r) (all_rounds (rounds_of s calls)) k [] 0

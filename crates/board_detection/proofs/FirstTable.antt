@@ -1,30 +1,28 @@
 -- The table of boards that begin: the detection conditions hold of it.
 -- Assumes nothing.
-use mathlib.Core.Path.{◌≡◌, refl, sym, ap, ◌∙◌}
-use mathlib.Core.Bool.{Bool, true, false, not, ◌&&◌}
-use mathlib.Core.List.{List, []}
-use Prim.Native.Nat.{ℕ, zero, suc, ◌+◌, ◌≤◌, ◌<◌}
+use mathlib.Core.Path.{◌≡◌, sym, ap, ◌∙◌}
+use mathlib.Core.Bool.{true, not}
+use mathlib.Core.List.{List}
+use Prim.Native.Nat.{ℕ, suc, ◌+◌, ◌≤◌, ◌<◌}
 use native.Mathlib.Omega.{arith}
 use borrow.Author.Tests.{eq-eqb, ltb-true}
-use lib.Dec.{eqb, ltb}
-use lib.ListN.{length, get_or}
+use lib.Dec.{ltb}
+use lib.ListN.{get_or}
 use Rattle.lists.proofs.BoolLaws.{by_bool, every-same}
 use Rattle.lists.proofs.SearchLaws.{every-all}
 use Rattle.lists.proofs.SumLaws.{sum_by, sum-not}
 use Rattle.lists.specs.Sums.{bit}
 use Rattle.table.specs.Sizes.{dimension}
-use Rattle.table.specs.Wiring.{is_ring}
-use Rattle.table.specs.Table.{head, stride, table_length, cell, status_column, next_column, finished_column, tests_column, suspects, live}
+use Rattle.table.specs.Table.{head, stride, cell, status_column, next_column, finished_column, tests_column, suspects, live}
 use Rattle.table.specs.Line.{line, is_live}
 use Rattle.table.specs.Properties.{line_at_start, at_start, live_count, no_live_suspicion, none_suspected}
 use Rattle.table.proofs.Accepting.{Accepted, accepted}
 use Rattle.table.proofs.LineLaws.{line_at}
-use Rattle.station.specs.Groups.{is_present, width, member}
+use Rattle.station.specs.Groups.{width, member}
 use Rattle.plant.proofs.RoundLaws.{Reset}
 use Rattle.plant.proofs.RulesKept.{unfinished-open}
 use Rattle.detection.specs.Claim.{stands_at, nobody_live_by, group_without_live, pairs_by, pairs_without_live, count_of}
-use Rattle.board.specs.Calls.{line_check}
-use Rattle.cable.specs.Boards.{Lines, Hold, all_finished, table_of}
+use Rattle.cable.specs.Boards.{Lines, Hold, table_of}
 use Rattle.cable.proofs.LineFacts.{let-through}
 use Rattle.cable.proofs.HoldLaws.{live-same, over-same}
 use Rattle.cable.proofs.TableOf.{table-line, boards-make-a-table}

@@ -3,11 +3,10 @@
 use mathlib.Core.Path.{◌≡◌, refl, sym, ap, ap₂, ◌∙◌}
 use mathlib.Core.Bool.{Bool, true, false, not, ◌&&◌}
 use mathlib.Core.List.{List, [], ◌∷◌, ◌++◌, map}
-use Prim.Native.Nat.{ℕ, suc, ◌+◌, ◌≤◌, ◌<◌}
+use Prim.Native.Nat.{ℕ, suc, ◌+◌, ◌<◌}
 use native.Mathlib.Omega.{arith}
 use borrow.Author.Tests.{eq-eqb}
 use lib.Dec.{eqb}
-use lib.ListN.{length}
 use Rattle.lists.proofs.BoolLaws.{by_bool}
 use Rattle.lists.specs.Sums.{bit}
 use Rattle.table.specs.Rules.{round_over}
@@ -24,7 +23,7 @@ use Rattle.detection.proofs.TakenLaws.{taken_at, count-snoc}
 use Rattle.detection.proofs.Counting.{Counts, counts_start}
 use Rattle.cable.specs.Boards.{Lines, Hold, after_act, all_finished, after_entry, after_entries}
 use Rattle.cable.proofs.RunByCalls.{entry-held}
-use Rattle.board_detection.specs.Detect.{TurnInTime, TurnsInTime, board_tests, counts_from}
+use Rattle.board_detection.specs.Detect.{TurnInTime, TurnsInTime, board_tests, counts_by_round}
 use Rattle.board_detection.proofs.Steps.{no_crash, takes, in_time, test-same, over, counted, closing-same}
 
 -- boards and a table that they hold, in a round that started with t₀ and has the entries `cur` so far. The tally is above its top, so that it is
@@ -48,7 +47,7 @@ pub record SameRounds (w n : ℕ) (s : State) (b : Lines) (cur : List Taken) (es
   pub no_crash : all_taken (λ x. not (crashes x)) (taken_from w n s es) ≡ true
   pub no_late : all_taken (λ x. not (is_late x)) (taken_from w n s es) ≡ true
   pub counts : (q : Lines → Entry → Bool) (r : Taken → Bool) → Alike w n q r
-      → map (count_taken r) (all_rounds (cut cur (taken_from w n s es))) ≡ counts_from q w n (count_taken r cur) b es
+      → map (count_taken r) (all_rounds (cut cur (taken_from w n s es))) ≡ counts_by_round q w n (count_taken r cur) b es
   pub held : (k : ℕ) (sheet : List ℕ) → Hold n (go_on w n k s sheet es).state.table (after_entries w n b es)
 
 module _ (w n : ℕ) (s : State) (b : Lines) (e : Entry) (es : List Entry) (t₀ : List ℕ) (cur : List Taken) (at : Beside w n s b t₀ cur)
@@ -81,7 +80,7 @@ module _ (w n : ℕ) (s : State) (b : Lines) (e : Entry) (es : List Entry) (t₀
   -- with it the round closes, or goes on
   step : ((u₀ : List ℕ) (now : List Taken) → Beside w n (after w n s e) (after_entry w n b e) u₀ now
       → SameRounds w n (after w n s e) (after_entry w n b e) now es) → SameRounds w n s b cur (e ∷ es)
-  unfolding after after_round taken_from all_taken cut count_taken counts_from go_on after_entries
+  unfolding after after_round taken_from all_taken cut count_taken counts_by_round go_on after_entries
   step rest = by_bool (all_finished n (after_act w n b e)) closing going
     where
       z : eqb (entry_refusal n s e) 0 ≡ true
@@ -99,7 +98,7 @@ module _ (w n : ℕ) (s : State) (b : Lines) (e : Entry) (es : List Entry) (t₀
       -- what the rest gives, with the counts of the rounds
       with : (now : List Taken) → SameRounds w n (after w n s e) (after_entry w n b e) now es
           → ((q : Lines → Entry → Bool) (r : Taken → Bool) → Alike w n q r
-          → map (count_taken r) (all_rounds (cut cur (taken_from w n s (e ∷ es)))) ≡ counts_from q w n (count_taken r cur) b (e ∷ es))
+          → map (count_taken r) (all_rounds (cut cur (taken_from w n s (e ∷ es)))) ≡ counts_by_round q w n (count_taken r cur) b (e ∷ es))
           → SameRounds w n s b cur (e ∷ es)
       with now r counts = record {
         one_wiring = rw z (ap₂ ◌&&◌ (eq-eqb w w refl) r.one_wiring);
@@ -125,7 +124,7 @@ module _ (w n : ℕ) (s : State) (b : Lines) (e : Entry) (es : List Entry) (t₀
 -- of the whole list
 pub same-rounds : (w n : ℕ) (s : State) (b : Lines) (t₀ : List ℕ) (cur : List Taken) (es : List Entry) → Beside w n s b t₀ cur → TurnsInTime w n b es
     → SameRounds w n s b cur es
-unfolding taken_from all_taken cut counts_from go_on after_entries
+unfolding taken_from all_taken cut counts_by_round go_on after_entries
 same-rounds w n s b t₀ cur [] at turns =
     record { one_wiring = refl; no_crash = refl; no_late = refl; counts = λ q r alike. refl; held = λ k sheet. at.hold }
 same-rounds w n s b t₀ cur (e ∷ es) at turns =

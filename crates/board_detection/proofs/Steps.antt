@@ -2,40 +2,35 @@
 -- Assumes nothing.
 use mathlib.Core.Path.{◌≡◌, refl, sym, ap, ◌∙◌}
 use mathlib.Core.Logic.{◌⊎◌, inl, inr}
-use mathlib.Core.Bool.{Bool, true, false, not, ◌&&◌, and-false, and-true}
+use mathlib.Core.Bool.{true, false, ◌&&◌, and-false}
 use mathlib.Core.List.{List, [], ◌∷◌, ◌++◌}
-use Prim.Native.Nat.{ℕ, suc, ◌+◌, ◌≤◌, ◌<◌}
+use Prim.Native.Nat.{ℕ, ◌<◌}
 use native.Mathlib.Omega.{arith}
-use borrow.Author.Tests.{eqb-true, eqb-false, ne_eqb, eq-eqb, lt-ltb, le-leb, not-true}
-use lib.Dec.{eqb, leb}
-use lib.ListN.{length, get_or}
+use borrow.Author.Tests.{eqb-false, ne_eqb, lt-ltb, not-true}
+use lib.Dec.{leb}
+use lib.ListN.{get_or}
 use Rattle.std.specs.Prelude.{Some, Ok}
 use Rattle.lists.proofs.BoolLaws.{by_bool}
 use Rattle.lists.proofs.RefusalLaws.{ensure_ok, and_ok}
-use Rattle.lists.specs.Sums.{bit}
 use Rattle.table.specs.Table.{finished_column, finished, live}
 use Rattle.table.specs.Line.{line, is_live}
 use Rattle.table.specs.Rules.{round_over, numbered_table_refusal}
 use Rattle.table.proofs.Accepting.{Accepted}
 use Rattle.table.proofs.CellLaws.{accepted-line}
 use Rattle.table.proofs.LineLaws.{line_at}
-use Rattle.plant.specs.Turn.{kind_turn, kind_late, makes_test, turn_tested, turn_outcome, next_test, outcome_at}
-use Rattle.plant.specs.Round.{reset_lines, after_round}
-use Rattle.plant.specs.Entry.{Entry, State, tally_top, is_crash, is_test, entry_check, entry_refusal, acted, after, tested_of, outcome_of, shows_test}
+use Rattle.plant.specs.Turn.{kind_turn, kind_late, makes_test, turn_tested, next_test, outcome_at}
+use Rattle.plant.specs.Entry.{Entry, State, tally_top, is_crash, entry_check, entry_refusal, acted, tested_of, outcome_of}
 use Rattle.plant.proofs.RunLaws.{accepted-number, made-test}
-use Rattle.plant.proofs.RulesKept.{Takes, entry-facts, acted-lines, accepted-kept}
-use Rattle.plant.proofs.RoundLaws.{Reset, reset-cells}
+use Rattle.plant.proofs.RulesKept.{acted-lines}
+use Rattle.plant.proofs.RoundLaws.{Reset}
 use Rattle.plant.proofs.TurnHeads.{turn-heads}
-use Rattle.plant.proofs.StepLines.{Lines as Lines'}
-use Rattle.plant.proofs.NextTest.{test-station}
-use Rattle.station.specs.Wired.{wired_station}
+use Rattle.plant.proofs.StepLines.{Lines as TableLines}
 use Rattle.detection.specs.Runs.{Taken, taken_test, is_late}
 use Rattle.detection.specs.Rounds.{closes}
 use Rattle.detection.proofs.TakenLaws.{taken_at}
-use Rattle.detection.proofs.Counting.{Counts, counts_start, turn-counts, closes-is}
-use Rattle.board.specs.Calls.{line_check, live_check, turn_check, next_answer}
-use Rattle.board.specs.Board.{next_station}
-use Rattle.cable.specs.Boards.{Lines, Hold, after_act, all_finished, after_entry}
+use Rattle.detection.proofs.Counting.{Counts, turn-counts, closes-is}
+use Rattle.board.specs.Calls.{live_check, turn_check, next_answer}
+use Rattle.cable.specs.Boards.{Lines, Hold, after_act, all_finished}
 use Rattle.cable.proofs.LineFacts.{let-through}
 use Rattle.cable.proofs.HoldLaws.{live-same, over-same}
 use Rattle.cable.proofs.TurnByLines.{tested-below}
@@ -156,9 +151,9 @@ module _ (w n : ℕ) (s : State) (b : Lines) (e : Entry) (a : Accepted w n s.tab
     pub counted : Counts n t₀ here t'
     unfolding acted
     counted =
-        let lines : Lines' w n t = (a.long, accepted-line w n t a) in
-        let zero-yet : finished n t i ≡ 0 = omega (arith, unfinished, (lines.1 i facts.below).pass.finished_range) in
-        rw no_crash (turn-counts w n s e (outcome_at w n t e.kind i (next_test w n t i)) t₀ _ cur no_crash facts.below zero-yet
+        let lines : TableLines w n t = (a.long, accepted-line w n t a) in
+        let open_pass : finished n t i ≡ 0 = omega (arith, unfinished, (lines.1 i facts.below).pass.finished_range) in
+        rw no_crash (turn-counts w n s e (outcome_at w n t e.kind i (next_test w n t i)) t₀ _ cur no_crash facts.below open_pass
         (turn-heads w n t e.kind i lines facts.below) counts)
 
     -- the round closes as the boards find
