@@ -24,8 +24,8 @@ pub fn call(wiring: Wiring, n: Size, random: &mut Random) -> Call {
     let tested = usize::from(board_next(given, &line).1);
     let other = (own + random.between(1, n - 1)) % n;
     let [wiring, asked, own_given, line] = arguments(given, line, random);
-    match random.below(20) {
-        0 => Call::new("vcube_board_fresh", [wiring, asked, own_given, line]),
+    match random.below(21) {
+        0 | 20 => Call::new("vcube_board_fresh", [wiring, asked, own_given, line]),
         1 | 2 => Call::new(
             "vcube_board_next",
             [wiring, asked, own_given, line, place(random)],
