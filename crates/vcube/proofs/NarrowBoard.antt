@@ -3,13 +3,13 @@
 use mathlib.Core.Path.{◌≡◌, refl, ◌∙◌}
 use mathlib.Core.Bool.{true}
 use mathlib.Core.List.{List}
-use Prim.Native.Nat.{ℕ, min, ◌≤◌}
+use Prim.Native.Nat.{ℕ, min}
 use Rattle.std.specs.Prelude.{Result, Ok, Err}
 use Rattle.std.specs.Result.{result_map_both, result_unwrap_or}
 use lib.ListN.{length}
 use Rattle.lists.specs.declared.refusal.Refusal.{Refusal}
-use Rattle.lists.specs.declared.refusal.Refusal.TheVariants.{SizeOutOfRange, NoSuchStation}
-use Rattle.lists.specs.Refusal.{Check, ensure, ◌and◌, unless_refused, number_of_result}
+use Rattle.lists.specs.declared.refusal.Refusal.TheVariants.{SizeOutOfRange}
+use Rattle.lists.specs.Refusal.{ensure, number_of_result}
 use Rattle.lists.proofs.RefusalLaws.{and_ok, ensure_ok}
 use Rattle.table.specs.Sizes.{is_size}
 use Rattle.table.specs.Wiring.{wiring_check}
@@ -20,32 +20,7 @@ use Rattle.board.specs.Packed.{heard}
 use Rattle.board.specs.Calls.{place_check, line_check, live_check, turn_check, replied_check, row_check, sent_check, exchanged_check}
 use Rattle.board.specs.Calls.{next_answer, replied_answer, silent_answer}
 use Rattle.board.specs.Calls.{fresh_after, row_sent, replied_after, silent_after, told_after, exchanged_after, closed_after}
-use Rattle.vcube.proofs.Narrow.{Narrow, narrow, station_far}
-
--- a check that refuses all numbers from 255 on, and why
-record Far (f : ℕ → Check) : Type 0 where
-  why : Refusal
-  far : (x : ℕ) → 255 ≤ x → f x ≡ Err why
-
--- so it does behind an earlier check
-behind : (c : Check) (f : ℕ → Check) → (c ≡ Ok tt → Far f) → Far (λ x. c and f x)
-behind (Ok x) f h = h refl
-behind (Err r) f h = record { why = r; far = λ x l. refl }
-
--- and before a later one
-before : (f g : ℕ → Check) → Far f → Far (λ x. f x and g x)
-before f g k = record { why = k.why; far = λ x l. rw (k.far x l) }
-
--- the check, what is answered behind it, and what a refused call leaves
-module _ (f : ℕ → Check) (k : Far f) where
-  checked : Narrow f
-  checked = narrow f (Err k.why) k.far
-
-  answered : {A : Type 0} (g : ℕ → Result A Refusal) → Narrow (λ x. f x and g x)
-  answered g = narrow (λ x. f x and g x) (Err k.why) (λ x l. rw (k.far x l))
-
-  left : {A : Type 0} (a : A) (g : ℕ → A) → Narrow (λ x. unless_refused (f x) a (g x))
-  left a g = narrow (λ x. unless_refused (f x) a (g x)) a (λ x l. rw (k.far x l))
+use Rattle.vcube.proofs.Narrow.{Narrow, Far, behind, before, checked, answered, left, station_far}
 
 place_size : (w n i len : ℕ) → place_check w n i len ≡ Ok tt → is_size n ≡ true
 unfolding place_check
@@ -57,7 +32,7 @@ module _ (w n : ℕ) where
   place_far len =
       behind (wiring_check w) _
       (λ a. behind (ensure (is_size n) SizeOutOfRange) _
-      (λ z. before _ _ (record { why = NoSuchStation; far = λ x. station_far n x (ensure_ok _ _ tt z) })))
+      (λ z. before _ _ (station_far n (ensure_ok _ _ tt z))))
 
   line_far : (l : List ℕ) → Far (λ i. line_check w n i l)
   unfolding line_check
@@ -88,10 +63,7 @@ module _ (w n : ℕ) where
   unfolding sent_check live_check line_check
   sent_far_by i l =
       behind (live_check w n i l) _
-      (λ e. before _ _ (record {
-        why = NoSuchStation;
-        far = λ b. station_far n b (place_size w n i (length l) (and_ok _ _ tt (and_ok _ _ tt e).0).0);
-      }))
+      (λ e. before _ _ (station_far n (place_size w n i (length l) (and_ok _ _ tt (and_ok _ _ tt e).0).0)))
 
   exchanged_far : (l : List ℕ) (b len : ℕ) → Far (λ i. exchanged_check w n i l b len)
   unfolding exchanged_check
