@@ -399,3 +399,8 @@ module _ (w n : ℕ) (s : State) (a : Accepted w n s.table) where
 pub boards-in-step : BoardsInStep
 boards-in-step w n s hs z =
     let a = accepted w n s.table z in in-step w n s a z (after_happenings w n s (start n s) hs) (all-kept w n s a (start n s) (first w n s a) hs)
+
+pub all-taken : (w n : ℕ) (s : State) (hs : List Happening) → numbered_table_refusal w n s.table ≡ 0
+    → Taken w n s (after_happenings w n s (start n s) hs).entries
+all-taken w n s hs z =
+    let a = accepted w n s.table z in (all-kept w n s a (start n s) (first w n s a) hs).taken

@@ -2,3 +2,4 @@
 pub mod System
 pub mod Happenings
 pub mod Claims
+pub mod Causes
