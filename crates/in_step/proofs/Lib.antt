@@ -3,4 +3,4 @@ pub mod TurnHeard
 pub mod Entries
 pub mod Runs
 pub mod Kept
-pub mod Causes
+pub mod OfRuns

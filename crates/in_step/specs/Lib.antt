@@ -3,3 +3,4 @@ pub mod System
 pub mod Happenings
 pub mod Claims
 pub mod Causes
+pub mod Waits

@@ -1,5 +1,5 @@
 -- By what is proved of runs.
-use Rattle.in_step.proofs.Causes.{causes-in-step}
+use Rattle.in_step.proofs.OfRuns.{causes-in-step}
 use Rattle.in_step.proofs.claims.causes_in_step.Goals as goal
 
 pub returns : goal.returns

@@ -16,6 +16,8 @@ use Rattle.lists.proofs.SearchLaws.{both, every-at}
 use Rattle.table.specs.Table.{head, status, status_column, status_told, suspects, live}
 use Rattle.table.specs.Line.{line, is_live}
 use Rattle.table.specs.Properties.{no_live_suspicion, none_suspected}
+use Rattle.table.specs.Rules.{not_live}
+use Rattle.lists.specs.Sums.{bit}
 use Rattle.table.specs.Rules.{numbered_table_refusal}
 use Rattle.table.proofs.Accepting.{Accepted, accepted}
 use Rattle.table.proofs.LineLaws.{line_at}
@@ -24,6 +26,8 @@ use Rattle.plant.specs.Run.{entries, start_refusal, run}
 use Rattle.detection.specs.Runs.{Call, Taken, call_of, after_runs, taken_from, taken_in, taken_all, is_late, taken_test}
 use Rattle.detection.specs.Rounds.{any_taken}
 use Rattle.detection.proofs.TakenLaws.{taken_at}
+use Rattle.detection.specs.Claim.{rounds_of, DetectionPremises, worst_rounds}
+use Rattle.detection.proofs.DetectionClaim.{detection-in-worst-case}
 use Rattle.accuracy.specs.Cause.{Suspicion, IsSuspected, late_of, was_late, HasCause}
 use Rattle.accuracy.specs.Accurate.{Accurate, ToldWhy}
 use Rattle.accuracy.proofs.Chains.{any-before}
@@ -32,6 +36,7 @@ use Rattle.in_step.specs.System.{System, start, after_all, table_at}
 use Rattle.in_step.specs.Happenings.{Happening, after_happenings}
 use Rattle.in_step.specs.Claims.{schedule_of, IsRun, InStep}
 use Rattle.in_step.specs.Causes.{entries_at, NoReplyOf, HaveCauses, CausesInStep}
+use Rattle.in_step.specs.Waits.{run_of, Knows, WaitInStep}
 use Rattle.in_step.proofs.Entries.{Taken as AllTaken}
 use Rattle.in_step.proofs.TurnHeard.{live-line}
 use Rattle.in_step.proofs.Runs.{is-run, run-starts, entries-back, taken-take}
@@ -73,22 +78,21 @@ module _ (w n : ℕ) where
 
   -- a run of entries that it takes, as a list of runs
   module _ (s : State) (es : List Entry) (z : numbered_table_refusal w n s.table ≡ 0) (t : AllTaken w n s es) where
-    sheet : List ℕ
+    abbrev calls : List Call
+    calls = run_of w n es
+
+    abbrev sheet : List ℕ
     sheet = replicate (4 * length es) 0
 
-    calls : List Call
-    calls = call_of w n (schedule_of es) sheet ∷ []
-
     long : length sheet ≡ 4 * length es
-    unfolding sheet
     long = length-replicate (4 * length es) 0
 
-    end-same : after_runs s calls ≡ after_all w n s es
-    unfolding after_runs calls
+    pub end-same : after_runs s calls ≡ after_all w n s es
+    unfolding after_runs
     end-same = (is-run w n s es sheet z t long).state
 
     taken-same : taken_all s calls ≡ taken_from w n s es
-    unfolding taken_all taken_in calls
+    unfolding taken_all taken_in
     taken-same = rw (run-starts w n s es sheet z long, entries-back es) (append-nil _)
 
     accurate : Accurate n s calls (after_runs s calls)
@@ -133,3 +137,21 @@ have-causes w n s y z none t h = record {
 pub causes-in-step : CausesInStep
 causes-in-step w n s hs z none =
     let y : System = after_happenings w n s (start n s) hs in have-causes w n s y z none (all-taken w n s hs z) (boards-in-step w n s hs z)
+
+pub wait-in-step : WaitInStep
+wait-in-step w n s hs z k hk l given enough =
+    let y : System = after_happenings w n s (start n s) hs in
+    let es : List Entry = entries_at y k in
+    let u : State = after_all w n s es in
+    let t = taken-take w n s y.entries (all-taken w n s hs z) (y.boards k).in_force in
+    let mine : (y.boards k).line ≡ line n u.table k = (boards-in-step w n s hs z).lines k hk in
+    let end : after_runs s (run_of w n es) ≡ u = end-same w n s es z t in
+    let c = detection-in-worst-case w n s (run_of w n es) given in
+    let lives : live n u.table k ≡ true = ap (λ (v : State). live n v.table k) (sym end) ∙ (c.same_live k hk ∙ l) in
+    record {
+      is_live = ap is_live mine ∙ (live-line n u.table k ∙ lives);
+      suspects = λ j hj.
+          ap (λ (l : List ℕ). get_or l (head + j) 0) mine
+          ∙ (line_at n u.table k (head + j) (omega arith)
+          ∙ (ap (λ (v : State). suspects n v.table k j) (sym end) ∙ c.exact_rows enough k j hk hj l));
+    }
