@@ -63,27 +63,27 @@ at-board P f k b i new old =
     by_bool (eqb i k) (λ e. rw (e, eqb-true i k e) (new (eqb-true i k e))) (λ e. rw e old)
 
 module _ (w n : ℕ) (s : State) (a : Accepted w n s.table) where
-  abbrev T : List Entry → ℕ → List ℕ
+  abbrev pub T : List Entry → ℕ → List ℕ
   T es m = table_at w n s es m
 
-  Fits : List Entry → ℕ → Board → Type 0
+  unfoldable pub Fits : List Entry → ℕ → Board → Type 0
   Fits es k b = (b.in_force ≤ length es) × (b.line ≡ line n (T es b.in_force) k)
 
-  GoodReply : List Entry → Reply → Type 0
+  pub GoodReply : List Entry → Reply → Type 0
   GoodReply es r = (r.from < n) × ((e : ℕ) → r.turn ≡ suc e → (e ≤ length es) × ReplyOn n (T es e) r)
 
-  GoodEnd : List Entry → (ℕ → Board) → End → Type 0
+  pub GoodEnd : List Entry → (ℕ → Board) → End → Type 0
   GoodEnd es f x = x.from < n → (e : ℕ) → x.turn ≡ suc e → (e ≤ length es) × EndOn w n (T es e) (f x.from) x e
 
-  record Holds (y : System) : Type 0 where
-    boards : (k : ℕ) → k < n → Fits y.entries k (y.boards k)
-    taken : Taken w n s y.entries
-    replies : (x : ℕ) (r : Reply) → slice_get y.replies x ≡ Some r → GoodReply y.entries r
-    ends : (x : ℕ) (d : End) → slice_get y.ends x ≡ Some d → GoodEnd y.entries y.boards d
-    own : (m : ℕ) (e : Entry) → slice_get y.entries m ≡ Some e → is_crash e ≡ false → OwnOn w n (T y.entries m) (y.boards e.station) m e
+  pub record Holds (y : System) : Type 0 where
+    pub boards : (k : ℕ) → k < n → Fits y.entries k (y.boards k)
+    pub taken : Taken w n s y.entries
+    pub replies : (x : ℕ) (r : Reply) → slice_get y.replies x ≡ Some r → GoodReply y.entries r
+    pub ends : (x : ℕ) (d : End) → slice_get y.ends x ≡ Some d → GoodEnd y.entries y.boards d
+    pub own : (m : ℕ) (e : Entry) → slice_get y.entries m ≡ Some e → is_crash e ≡ false → OwnOn w n (T y.entries m) (y.boards e.station) m e
 
   -- at first
-  first : Holds (start n s)
+  pub first : Holds (start n s)
   unfolding start Fits after_all
   first = record {
     boards = λ k hk. (omega arith, refl);
@@ -277,7 +277,7 @@ module _ (w n : ℕ) (s : State) (a : Accepted w n s.table) where
       (λ q. rw q h)
 
   -- an end comes to the master
-  accepted-all : (y : System) → Holds y → Accepted w n (after_all w n s y.entries).table
+  pub accepted-all : (y : System) → Holds y → Accepted w n (after_all w n s y.entries).table
   accepted-all y h =
       subst (λ (es : List Entry). Accepted w n (after_all w n s es).table) (take-length y.entries)
       (accepted-at w n s y.entries a h.taken (length y.entries))
@@ -365,7 +365,7 @@ module _ (w n : ℕ) (s : State) (a : Accepted w n s.table) where
       (λ q. rw q (put-kept y h k m e (is e refl) (eqb-true m b.in_force q) heard good (line_by n k b (note_of w n (T y.entries m) e) heard) refl))
       (λ q. rw q h)
 
-  happening-kept : (y : System) → Holds y → (x : Happening) → Holds (after_happening w n s y x)
+  pub happening-kept : (y : System) → Holds y → (x : Happening) → Holds (after_happening w n s y x)
   happening-kept y h (test_comes j turn) = reply-kept y h j turn
   happening-kept y h (reply_comes i x) = heard-kept y h i (slice_get y.replies x) (h.replies x)
   happening-kept y h (none_comes i) = turn-kept y h i None (λ _. inl refl)
@@ -373,7 +373,7 @@ module _ (w n : ℕ) (s : State) (a : Accepted w n s.table) where
   happening-kept y h (crash_found i) = entry-kept y h (entry_of 3 i) (λ _ c. let z : true ≡ false = c in cc)
   happening-kept y h (note_comes k m x) = note-kept y h k m (slice_get y.entries m) (slice_get y.ends x) (λ e g. g) (h.ends x)
 
-  all-kept : (y : System) → Holds y → (hs : List Happening) → Holds (after_happenings w n s y hs)
+  pub all-kept : (y : System) → Holds y → (hs : List Happening) → Holds (after_happenings w n s y hs)
   unfolding after_happenings
   all-kept y h [] = h
   all-kept y h (x ∷ hs) = all-kept (after_happening w n s y x) (happening-kept y h x) hs

@@ -4,3 +4,4 @@ pub mod Entries
 pub mod Runs
 pub mod Kept
 pub mod OfRuns
+pub mod GetInForce

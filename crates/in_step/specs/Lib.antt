@@ -4,3 +4,4 @@ pub mod Happenings
 pub mod Claims
 pub mod Causes
 pub mod Waits
+pub mod InForce
