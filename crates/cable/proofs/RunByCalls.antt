@@ -134,9 +134,11 @@ crashed n t b hold long i h alive = holds n (crash n t i) (after_crash b i) (λ 
     at k hk (yes e) =
         let f : b k ≡ line n t i = rw e (hold.live_lines i h alive) in
         rw (eq-eqb k i e, f, e)
-        (held n (crash n t i) i (set (line n t i) status_column status_crashed) (sym (line-set n t i status_column status_crashed long h (omega arith))))
+        (held n (crash n t i) i (set (line n t i) status_column status_crashed)
+        (sym (line-set n t i status_column status_crashed long h (omega arith))))
     at k hk (no d) =
-        rw (ne_eqb k i d) (kept n t b hold k hk (crash n t i) (line-set-other n t i status_column status_crashed k long hk (omega arith) (λ e. d (sym e))))
+        let e = line-set-other n t i status_column status_crashed k long hk (omega arith) (λ e. d (sym e)) in
+        rw (ne_eqb k i d) (kept n t b hold k hk (crash n t i) e)
 
 -- a closing leaves the status
 same-status : (l : List ℕ) → get_or (round_closed l) status_column 0 ≡ get_or l status_column 0
@@ -158,7 +160,8 @@ closed-status (Err r) l = refl
 pub closing : (w n : ℕ) (t : List ℕ) (b : Lines) → Hold n t b → wiring_check w ≡ Ok tt → is_size n ≡ true → length t ≡ table_length n
     → ((k : ℕ) → k < n → Line w n t k) → Hold n (after_round n t) (after_closing w n b)
 unfolding after_round after_closing
-closing w n t b hold wired size long lines = by_bool (round_over n t) (λ o. rw (over-same n t b hold, o) closed) (λ o. rw (over-same n t b hold, o) hold)
+closing w n t b hold wired size long lines =
+    by_bool (round_over n t) (λ o. rw (over-same n t b hold, o) closed) (λ o. rw (over-same n t b hold, o) hold)
   where
     was : (k : ℕ) → status n (reset_lines n t) k ≡ status n t k
     was k = reset-other n t k status_column (omega arith) (λ p. omega arith)
@@ -232,7 +235,8 @@ boards-do-the-run w n s b schedule sheet hold =
     (λ t.
     let r : RunResult = go_on w n 0 s sheet (entries schedule) in
     let x : r.taken - 0 ≡ r.taken = omega arith in
-    let a = (start-facts w n s.table (length schedule) (length sheet) (eqb-true (start_refusal w n s.table (length schedule) (length sheet)) 0 t)).0 in
+    let z = eqb-true (start_refusal w n s.table (length schedule) (length sheet)) 0 t in
+    let a = (start-facts w n s.table (length schedule) (length sheet) z).0 in
     let p = rw x at (run-on w n 0 s sheet (entries schedule) b a hold) in
     rw t (record { held = p.1; sheet_lines = p.2 }))
     (λ t. rw t (record { held = hold; sheet_lines = refl }))
