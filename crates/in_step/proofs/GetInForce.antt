@@ -222,19 +222,20 @@ module _ (w n : ℕ) (s : State) (a : Accepted w n s.table) where
     crash-makes c =
         let q : entry_of 3 e.station ≡ e = ap (λ (k : ℕ). entry_of k e.station) (sym (eqb-true e.kind 3 c)) in
         let gives : after_happenings w n s y (crash_found e.station ∷ []) ≡ record y { entries = y.entries ++ (e ∷ []) } =
-        rw q (made-entry y e ok) in
-        (crash_found e.station ∷ [],
-        subst (MadeIn y e) (sym gives)
-        (record {
-          entries = refl;
-          noted = record {
-            stands = get-last y.entries e;
-            before = λ k hk. absurd (omega arith);
-            behind = λ k hk hn. (v.levels k hn).0;
-            own = λ d _. let z : true ≡ false = sym c ∙ d in cc;
-            end = λ d. let z : true ≡ false = sym c ∙ d in cc;
-          };
-        }))
+        rw q (made-entry y e ok) in (
+          crash_found e.station ∷ [],
+          subst (MadeIn y e) (sym gives)
+              (record {
+                entries = refl;
+                noted = record {
+                  stands = get-last y.entries e;
+                  before = λ k hk. absurd (omega arith);
+                  behind = λ k hk hn. (v.levels k hn).0;
+                  own = λ d _. let z : true ≡ false = sym c ∙ d in cc;
+                  end = λ d. let z : true ≡ false = sym c ∙ d in cc;
+                };
+              }),
+        )
 
     facts : Takes n (after_all w n s y.entries) e
     facts = entry-facts n (after_all w n s y.entries) e ok
@@ -275,19 +276,22 @@ module _ (w n : ℕ) (s : State) (a : Accepted w n s.table) where
         reply_heard w n u e.station (Some r) ≡ turn_made w n u e.station (Some r.row))
     unfolding reply_heard
     reply-gives j is =
-        rw (eq-eqb (suc (length y.entries)) (suc mine.in_force) (ap suc (sym (v.levels e.station facts.below).0)),
-        eq-eqb j (tested w n e.station mine.line) is)
+        rw (
+          eq-eqb (suc (length y.entries)) (suc mine.in_force) (ap suc (sym (v.levels e.station facts.below).0)),
+          eq-eqb j (tested w n e.station mine.line) is,
+        )
         refl
 
     -- with a reply, and without one
     none-makes : (let x : End = record { turn = suc mine.in_force; from = e.station; outcome = outcome w n e.station mine.line None; row = row_of n mine.line } in
         entry_by w n t x ≡ e) → Makes y e
     unfolding Makes after_happenings
-    none-makes q =
-        (none_comes e.station ∷ end_comes 0 ∷ [],
-        subst (λ (u : System). MadeIn y e (after_happenings w n s u (end_comes 0 ∷ []))) (sym (turn-gives y e v.levels ok None))
-        (subst (MadeIn y e) (sym (end-gives y e v.levels ok None q))
-        (record { entries = refl; noted = entered-noted y e v.levels ok None })))
+    none-makes q = (
+      none_comes e.station ∷ end_comes 0 ∷ [],
+      subst (λ (u : System). MadeIn y e (after_happenings w n s u (end_comes 0 ∷ []))) (sym (turn-gives y e v.levels ok None))
+          (subst (MadeIn y e) (sym (end-gives y e v.levels ok None q))
+          (record { entries = refl; noted = entered-noted y e v.levels ok None })),
+    )
 
     row-makes : (j : ℕ) → j < n → live n t j ≡ true → j ≡ tested w n e.station mine.line
         → (let x : End = record {
@@ -302,13 +306,14 @@ module _ (w n : ℕ) (s : State) (a : Accepted w n s.table) where
     row-makes j hj l is q =
         let i : ℕ = e.station in
         let r : Reply = record { turn = suc (length y.entries); from = j; row = row_of n (y.boards j).line } in
-        let u : System = record y { replies = r ∷ y.replies } in
-        (test_comes j (suc (length y.entries)) ∷ reply_comes i 0 ∷ end_comes 0 ∷ [],
-        subst (λ (u : System). MadeIn y e (after_happenings w n s (reply_heard w n u i (slice_get u.replies 0)) (end_comes 0 ∷ []))) (sym (test-gives j hj l))
-        (subst (λ (u : System). MadeIn y e (after_happenings w n s u (end_comes 0 ∷ []))) (sym (reply-gives j is))
-        (subst (λ (u : System). MadeIn y e (after_happenings w n s u (end_comes 0 ∷ []))) (sym (turn-gives u e v.levels ok (Some r.row)))
-        (subst (MadeIn y e) (sym (end-gives u e v.levels ok (Some r.row) q))
-        (record { entries = refl; noted = entered-noted u e v.levels ok (Some r.row) })))))
+        let u : System = record y { replies = r ∷ y.replies } in (
+          test_comes j (suc (length y.entries)) ∷ reply_comes i 0 ∷ end_comes 0 ∷ [],
+          subst (λ (u : System). MadeIn y e (after_happenings w n s (reply_heard w n u i (slice_get u.replies 0)) (end_comes 0 ∷ []))) (sym (test-gives j hj l))
+              (subst (λ (u : System). MadeIn y e (after_happenings w n s u (end_comes 0 ∷ []))) (sym (reply-gives j is))
+              (subst (λ (u : System). MadeIn y e (after_happenings w n s u (end_comes 0 ∷ []))) (sym (turn-gives u e v.levels ok (Some r.row)))
+              (subst (MadeIn y e) (sym (end-gives u e v.levels ok (Some r.row) q))
+              (record { entries = refl; noted = entered-noted u e v.levels ok (Some r.row) })))),
+        )
 
     -- the entry is made
     entry-makes : (e.kind ≡ 2 → (is_test w n t e ≡ true) × (live n t (tested_of w n t e) ≡ true)) → Makes y e
@@ -367,10 +372,11 @@ module _ (w n : ℕ) (s : State) (a : Accepted w n s.table) where
       record {
         holds = all-kept w n s a u (all-kept w n s a y v.holds made.0) (notes m n);
         levels = λ k hk. let b = told.1.before k hk in (b.0 ∙ sym longer, b.1);
-      } in
-      (made.0 ++ notes m n,
-      subst (λ (x : System). x.entries ≡ y.entries ++ (e ∷ [])) (sym same) listed,
-      subst Level (sym same) level)
+      } in (
+        made.0 ++ notes m n,
+        subst (λ (x : System). x.entries ≡ y.entries ++ (e ∷ [])) (sym same) listed,
+        subst Level (sym same) level,
+      )
 
   all-go : (y : System) → Level y → (es : List Entry) → AsMade w n (after_all w n s y.entries) es → Goes y es
   unfolding Goes after_happenings
@@ -381,11 +387,12 @@ module _ (w n : ℕ) (s : State) (a : Accepted w n s.table) where
       let now : after_all w n s u.entries ≡ after w n (after_all w n s y.entries) e =
       ap (after_all w n s) one.1 ∙ after_all-snoc w n s y.entries e in
       let rest = all-go u one.2 es (subst (λ (v : State). AsMade w n v es) (sym now) t.2) in
-      let same : after_happenings w n s y (one.0 ++ rest.0) ≡ after_happenings w n s u rest.0 = after-append w n s y one.0 rest.0 in
-      (one.0 ++ rest.0,
-      subst (λ (x : System). x.entries ≡ y.entries ++ (e ∷ es)) (sym same)
-      (rest.1 ∙ (ap (λ (xs : List Entry). xs ++ es) one.1 ∙ append_assoc y.entries (e ∷ []) es)),
-      subst Level (sym same) rest.2)
+      let same : after_happenings w n s y (one.0 ++ rest.0) ≡ after_happenings w n s u rest.0 = after-append w n s y one.0 rest.0 in (
+        one.0 ++ rest.0,
+        subst (λ (x : System). x.entries ≡ y.entries ++ (e ∷ es)) (sym same)
+            (rest.1 ∙ (ap (λ (xs : List Entry). xs ++ es) one.1 ∙ append_assoc y.entries (e ∷ []) es)),
+        subst Level (sym same) rest.2,
+      )
 
   begins : Level (start n s)
   unfolding start
@@ -395,6 +402,7 @@ pub entries-get-in-force : EntriesGetInForce
 unfolding Goes after_all start
 entries-get-in-force w n s es z t =
     let a = accepted w n s.table z in
-    let go = all-go w n s a (start n s) (begins w n s a) es t in
-    (go.0,
-    record { entries = go.1; boards = λ k hk. (go.2.levels k hk).0 ∙ ap (λ (xs : List Entry). length xs) go.1 })
+    let go = all-go w n s a (start n s) (begins w n s a) es t in (
+      go.0,
+      record { entries = go.1; boards = λ k hk. (go.2.levels k hk).0 ∙ ap (λ (xs : List Entry). length xs) go.1 },
+    )

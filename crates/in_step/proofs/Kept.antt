@@ -211,12 +211,15 @@ module _ (w n : ℕ) (s : State) (a : Accepted w n s.table) where
       let fits = h.boards j low in
       let turn = eqb-true number (suc b.in_force) p.1 in
       rw q
-      (replied y (record { turn = number; from = j; row = row_of n b.line }) h
-      (low, λ e z.
-      let same : b.in_force ≡ e = omega (arith, turn, z) in
-      (omega (arith, fits.0, same),
-      subst (λ (e : ℕ). ReplyOn n (T y.entries e) (record { turn = number; from = j; row = row_of n b.line })) same
-      (record { row = ap (row_of n) fits.1; is_live = sym (live-line n (T y.entries b.in_force) j) ∙ (sym (ap is_live fits.1) ∙ r.1) })))))
+      (replied y (record { turn = number; from = j; row = row_of n b.line }) h (
+        low,
+        λ e z.
+            let same : b.in_force ≡ e = omega (arith, turn, z) in (
+              omega (arith, fits.0, same),
+              subst (λ (e : ℕ). ReplyOn n (T y.entries e) (record { turn = number; from = j; row = row_of n b.line })) same
+                  (record { row = ap (row_of n) fits.1; is_live = sym (live-line n (T y.entries b.in_force) j) ∙ (sym (ap is_live fits.1) ∙ r.1) }),
+            ),
+      )))
       (λ q. rw q h)
 
   -- a turn is made
@@ -235,18 +238,19 @@ module _ (w n : ℕ) (s : State) (a : Accepted w n s.table) where
     unfolding GoodEnd Fits
     good-end low e q =
         let fits = h.boards i low in
-        let same : b.in_force ≡ e = omega (arith, q) in
-        (omega (arith, fits.0, same),
-        rw (eq-eqb i i refl)
-        (subst (λ (e : ℕ). EndOn w n (T y.entries e) b' x e) same
-        (record {
-          reached = omega arith;
-          reply = reply;
-          heard = heard low;
-          outcome_sent = ap (λ (l : List ℕ). outcome w n i l reply) fits.1;
-          row = ap (row_of n) fits.1;
-          aside = λ _. ap (λ (l : List ℕ). Some (turn_of w n i l reply)) fits.1;
-        })))
+        let same : b.in_force ≡ e = omega (arith, q) in (
+          omega (arith, fits.0, same),
+          rw (eq-eqb i i refl)
+              (subst (λ (e : ℕ). EndOn w n (T y.entries e) b' x e) same
+              (record {
+                reached = omega arith;
+                reply = reply;
+                heard = heard low;
+                outcome_sent = ap (λ (l : List ℕ). outcome w n i l reply) fits.1;
+                row = ap (row_of n) fits.1;
+                aside = λ _. ap (λ (l : List ℕ). Some (turn_of w n i l reply)) fits.1;
+              })),
+        )
 
     turn-kept : Holds (turn_made w n y i reply)
     unfolding turn_made Fits
@@ -348,11 +352,12 @@ module _ (w n : ℕ) (s : State) (a : Accepted w n s.table) where
         λ hk.
         let now : here.line ≡ line n was.table k = (h.boards k hk).1 ∙ ap (λ (v : ℕ). line n (T y.entries v) k) (sym next) in
         let made : b.line ≡ line n (after w n was e).table k =
-        line-after w n was (accepted-at w n s y.entries a h.taken m) e taken-here k hk here now heard (row-true heard good) own-true l z in
-        (omega (arith, slice_get_within y.entries m e g, next),
-        made
-        ∙ (ap (λ (v : State). line n v.table k) (sym (at-next w n s y.entries m e g))
-        ∙ ap (λ (v : ℕ). line n (T y.entries (suc v)) k) next)) in
+        line-after w n was (accepted-at w n s y.entries a h.taken m) e taken-here k hk here now heard (row-true heard good) own-true l z in (
+          omega (arith, slice_get_within y.entries m e g, next),
+          made
+              ∙ (ap (λ (v : State). line n v.table k) (sym (at-next w n s y.entries m e g))
+              ∙ ap (λ (v : ℕ). line n (T y.entries (suc v)) k) next),
+        ) in
         moved y h k b fits (record { further = omega arith; open_turn = λ e low z. absurd (omega arith) })
 
   note-kept : (y : System) → Holds y → (k m : ℕ) (o : Option Entry) (heard : Option End) → ((e : Entry) → o ≡ Some e → slice_get y.entries m ≡ Some e)
