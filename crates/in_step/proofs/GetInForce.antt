@@ -2,20 +2,18 @@
 -- Assumes nothing.
 use mathlib.Core.Path.{◌≡◌, refl, sym, ap, subst, ◌∙◌}
 use mathlib.Core.Logic.{◌≢◌}
-use mathlib.Core.Bool.{Bool, true, false, cond, not, ◌&&◌}
+use mathlib.Core.Bool.{true, false, cond}
 use mathlib.Core.List.{List, [], ◌∷◌, ◌++◌, append_assoc, append-nil}
-use Prim.Native.Nat.{ℕ, zero, suc, ◌+◌, ◌<◌, ◌≤◌}
+use Prim.Native.Nat.{ℕ, zero, suc, ◌<◌, ◌≤◌}
 use native.Mathlib.Decide.{ℕ_discrete}
 use native.Mathlib.Omega.{arith}
 use borrow.Author.Tests.{eqb-true, eqb-false, eq-eqb, ne_eqb, lt-ltb}
 use lib.Dec.{eqb}
-use lib.ListN.{length, set, take, length-append}
+use lib.ListN.{length, set, length-append}
 use lib.Seq.{take-length}
-use Rattle.std.specs.Prelude.{Option, None, Some, is_none, slice_get, option_map}
-use Rattle.std.proofs.lemmas.Option.{same_Some, none-some}
+use Rattle.std.specs.Prelude.{Option, None, Some, slice_get}
 use Rattle.lists.proofs.BoolLaws.{by_bool}
 use Rattle.table.specs.Table.{live, status_column, status_crashed}
-use Rattle.table.specs.Rules.{numbered_table_refusal}
 use Rattle.table.specs.Line.{line, row_of, is_live}
 use Rattle.table.proofs.Accepting.{Accepted, accepted}
 use Rattle.plant.specs.Turn.{makes_test, turn_tested}
@@ -27,7 +25,7 @@ use Rattle.board.specs.Board.{tests, tested, turn_of, outcome, joined, left_told
 use Rattle.in_step.specs.System.{Board, Reply, End, System, start, after_all, table_at, Note, note_of, row_heard, own_line, tested_line, line_by}
 use Rattle.in_step.specs.Happenings.{with_board, reply_sent, turn_made, reply_heard, entry_made, entry_by, end_heard, put_in_force, note_heard, Happening, after_happening, after_happenings}
 use Rattle.in_step.specs.Happenings.Happening.{test_comes, reply_comes, none_comes, end_comes, crash_found, note_comes}
-use Rattle.in_step.specs.InForce.{AsMade, AllInForce, EntriesGetInForce}
+use Rattle.in_step.specs.InForce.{AsMade, EntriesGetInForce}
 use Rattle.in_step.proofs.Entries.{after_all-snoc}
 use Rattle.in_step.proofs.Kept.{Fits, Holds, first, all-kept, accepted-all}
 use Rattle.in_step.proofs.TurnHeard.{live-line, none-outcome, row-outcome, pass-outcome}

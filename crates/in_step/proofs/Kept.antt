@@ -1,10 +1,10 @@
 -- What holds of everything whatever happens.
 -- Assumes nothing.
 use mathlib.Core.Path.{◌≡◌, refl, sym, ap, subst, ◌∙◌}
-use mathlib.Core.Logic.{◌≢◌, ◌⊎◌, inl, inr, ⊎_elim}
-use mathlib.Core.Bool.{Bool, true, false, cond, ◌&&◌}
+use mathlib.Core.Logic.{inl, inr, ⊎_elim}
+use mathlib.Core.Bool.{true, false, cond, ◌&&◌}
 use mathlib.Core.List.{List, [], ◌∷◌, ◌++◌}
-use Prim.Native.Nat.{ℕ, zero, suc, ◌+◌, ◌<◌, ◌≤◌}
+use Prim.Native.Nat.{ℕ, suc, ◌<◌, ◌≤◌}
 use native.Mathlib.Omega.{arith}
 use borrow.Author.Tests.{eqb-true, ltb-true, eq-eqb}
 use lib.Dec.{eqb, ltb}
@@ -18,7 +18,7 @@ use Rattle.table.specs.Table.{live}
 use Rattle.table.specs.Rules.{numbered_table_refusal}
 use Rattle.table.specs.Line.{line, row_of, is_live}
 use Rattle.table.proofs.Accepting.{Accepted, accepted}
-use Rattle.plant.specs.Turn.{turn, turn_tested}
+use Rattle.plant.specs.Turn.{turn}
 use Rattle.plant.specs.Entry.{Entry, State, entry_of, is_crash, entry_refusal, acted, after}
 use Rattle.board.specs.Board.{tested, turn_of, outcome, round_closed}
 use Rattle.plant.proofs.RulesKept.{entry-facts}

@@ -1,42 +1,36 @@
 -- What is proved of the suspicions and the exits of runs, of the boards' own lines.
 -- Assumes nothing.
 use mathlib.Core.Path.{◌≡◌, refl, sym, ap, subst, ◌∙◌}
-use mathlib.Core.Logic.{◌⊎◌, inl, inr, ⊎_elim}
-use mathlib.Core.Bool.{Bool, true, false, not, ◌&&◌, ◌||◌}
-use mathlib.Core.List.{List, [], ◌∷◌, ◌++◌, append-nil}
-use Prim.Native.Nat.{ℕ, zero, suc, ◌+◌, ◌*◌, ◌<◌, ◌≤◌}
+use mathlib.Core.Logic.{⊎_elim}
+use mathlib.Core.Bool.{true, false, ◌&&◌, ◌||◌}
+use mathlib.Core.List.{List, [], ◌∷◌, append-nil}
+use Prim.Native.Nat.{ℕ, suc, ◌+◌, ◌*◌, ◌<◌}
 use native.Mathlib.Omega.{arith}
-use borrow.Author.Tests.{eqb-true, eq-eqb}
+use borrow.Author.Tests.{eqb-true}
 use lib.Dec.{eqb}
-use lib.ListN.{length, replicate, take, get_or, length-replicate}
-use lib.Seq.{length-take-le}
-use Rattle.std.specs.Prelude.{Some, slice_get}
+use lib.ListN.{length, replicate, get_or, length-replicate}
 use Rattle.lists.proofs.BoolLaws.{by_bool}
 use Rattle.lists.proofs.SearchLaws.{both, every-at}
 use Rattle.table.specs.Table.{head, status, status_column, status_told, suspects, live}
 use Rattle.table.specs.Line.{line, is_live}
 use Rattle.table.specs.Properties.{no_live_suspicion, none_suspected}
-use Rattle.table.specs.Rules.{not_live}
-use Rattle.lists.specs.Sums.{bit}
 use Rattle.table.specs.Rules.{numbered_table_refusal}
-use Rattle.table.proofs.Accepting.{Accepted, accepted}
+use Rattle.table.proofs.Accepting.{accepted}
 use Rattle.table.proofs.LineLaws.{line_at}
-use Rattle.plant.specs.Entry.{Entry, State, entry_refusal, after, tested_of}
-use Rattle.plant.specs.Run.{entries, start_refusal, run}
-use Rattle.detection.specs.Runs.{Call, Taken, call_of, after_runs, taken_from, taken_in, taken_all, is_late, taken_test}
+use Rattle.plant.specs.Entry.{Entry, State, after, tested_of}
+use Rattle.detection.specs.Runs.{Call, Taken, after_runs, taken_from, taken_in, taken_all, is_late, taken_test}
 use Rattle.detection.specs.Rounds.{any_taken}
 use Rattle.detection.proofs.TakenLaws.{taken_at}
-use Rattle.detection.specs.Claim.{rounds_of, DetectionPremises, worst_rounds}
 use Rattle.detection.proofs.DetectionClaim.{detection-in-worst-case}
-use Rattle.accuracy.specs.Cause.{Suspicion, IsSuspected, late_of, was_late, HasCause}
-use Rattle.accuracy.specs.Accurate.{Accurate, ToldWhy}
+use Rattle.accuracy.specs.Cause.{Suspicion, IsSuspected, late_of, was_late}
+use Rattle.accuracy.specs.Accurate.{Accurate}
 use Rattle.accuracy.proofs.Chains.{any-before}
 use Rattle.accuracy.proofs.Claims.{runs-accurate}
-use Rattle.in_step.specs.System.{System, start, after_all, table_at}
-use Rattle.in_step.specs.Happenings.{Happening, after_happenings}
-use Rattle.in_step.specs.Claims.{schedule_of, IsRun, InStep}
+use Rattle.in_step.specs.System.{System, start, after_all}
+use Rattle.in_step.specs.Happenings.{after_happenings}
+use Rattle.in_step.specs.Claims.{InStep}
 use Rattle.in_step.specs.Causes.{entries_at, NoReplyOf, HaveCauses, CausesInStep}
-use Rattle.in_step.specs.Waits.{run_of, Knows, WaitInStep}
+use Rattle.in_step.specs.Waits.{run_of, WaitInStep}
 use Rattle.in_step.proofs.Entries.{Taken as AllTaken}
 use Rattle.in_step.proofs.TurnHeard.{live-line}
 use Rattle.in_step.proofs.Runs.{is-run, run-starts, entries-back, taken-take}

@@ -1,15 +1,15 @@
 -- The entries that the master made are those of a run.
 -- Assumes nothing.
-use mathlib.Core.Path.{◌≡◌, refl, ap, ◌∙◌}
+use mathlib.Core.Path.{◌≡◌, refl, ap}
 use mathlib.Core.List.{List, [], ◌∷◌}
-use Prim.Native.Nat.{ℕ, zero, suc, ◌+◌, ◌*◌, ◌%◌, ◌≤◌}
+use Prim.Native.Nat.{ℕ, zero, suc, ◌+◌, ◌*◌, ◌%◌}
 use native.Mathlib.Omega.{arith}
-use borrow.Author.Tests.{eq-eqb, ne_eqb}
+use borrow.Author.Tests.{eq-eqb}
 use lib.ListN.{length, take}
 use Rattle.table.specs.Rules.{numbered_table_refusal}
 use Rattle.lists.proofs.RefusalLaws.{check_zero}
 use Rattle.plant.specs.Entry.{Entry, State, after, sheet_line}
-use Rattle.plant.specs.Run.{RunResult, entries, write_line, go_on, start_check, start_refusal, run}
+use Rattle.plant.specs.Run.{entries, write_line, go_on, start_check, start_refusal, run}
 use Rattle.in_step.specs.System.{after_all}
 use Rattle.in_step.specs.Claims.{schedule_of, IsRun}
 use Rattle.in_step.proofs.Entries.{Taken}

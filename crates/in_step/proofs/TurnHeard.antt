@@ -1,20 +1,20 @@
 -- A turn by what the tester heard, and what an entry makes of each line.
 -- Assumes nothing.
 use mathlib.Core.Path.{◌≡◌, refl, sym, ap, ◌∙◌}
-use mathlib.Core.Logic.{◌≢◌, ◌⊎◌, inl, inr, ⊎_elim}
+use mathlib.Core.Logic.{◌≢◌, ◌⊎◌, ⊎_elim}
 use mathlib.Core.Bool.{Bool, true, false, cond, ◌&&◌}
-use mathlib.Core.List.{List, []}
-use Prim.Native.Nat.{ℕ, ◌+◌, ◌<◌, ◌≤◌}
+use mathlib.Core.List.{List}
+use Prim.Native.Nat.{ℕ, ◌+◌, ◌<◌}
 use native.Mathlib.Decide.{ℕ_discrete}
 use native.Mathlib.Omega.{arith}
-use borrow.Author.Tests.{eqb-true, eqb-false, eq-eqb, ne_eqb}
+use borrow.Author.Tests.{eq-eqb, ne_eqb}
 use lib.Dec.{eqb}
-use lib.ListN.{length, get_or, set}
+use lib.ListN.{get_or, set}
 use Rattle.std.specs.Prelude.{Option, None, Some, option_map}
 use Rattle.std.proofs.lemmas.Option.{same_Some, none-some}
 use Rattle.lists.proofs.BoolLaws.{by_bool, choice}
-use Rattle.table.specs.Table.{table_length, live, row, status_column, status_crashed}
-use Rattle.table.specs.Rules.{round_over, numbered_table_refusal}
+use Rattle.table.specs.Table.{live, row, status_column, status_crashed}
+use Rattle.table.specs.Rules.{round_over}
 use Rattle.table.specs.Line.{line, row_of, is_live}
 use Rattle.table.proofs.Accepting.{Accepted}
 use Rattle.table.proofs.LineLaws.{line_at, line-row, line-set, line-set-other}
@@ -25,7 +25,7 @@ use Rattle.plant.specs.Entry.{Entry, State, entry_of, is_crash, entry_refusal, a
 use Rattle.plant.specs.Entry.{outcome_of as entry_outcome}
 use Rattle.plant.proofs.RunLaws.{accepted-number}
 use Rattle.plant.proofs.RulesKept.{Takes, entry-facts, acted-lines}
-use Rattle.board.specs.Board.{tests, tested, turn_of, outcome_of, outcome, message, sent, received, round_closed, joined, left_told}
+use Rattle.board.specs.Board.{tests, tested, turn_of, outcome_of, outcome, message, received, round_closed, joined, left_told}
 use Rattle.cable.specs.Claims.{answered, reply_to, SameTurn}
 use Rattle.in_step.specs.System.{Board, End, Note, note_of, row_heard, own_line, tested_line, line_by}
 use Rattle.in_step.specs.Happenings.{entry_by}
