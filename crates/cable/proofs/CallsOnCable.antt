@@ -4,26 +4,25 @@ use mathlib.Core.Path.{◌≡◌, refl, sym, ap, ◌∙◌}
 use mathlib.Core.Logic.{◌≢◌}
 use mathlib.Core.Bool.{true, false, cond}
 use mathlib.Core.List.{List}
-use Prim.Native.Nat.{ℕ, ◌+◌, ◌≤◌, ◌<◌}
+use Prim.Native.Nat.{ℕ, ◌+◌, ◌<◌}
 use native.Mathlib.Decide.{ℕ_discrete}
 use native.Mathlib.Omega.{arith}
 use borrow.Author.Tests.{eqb-true, eq-eqb, ne_eqb, lt-ltb}
-use lib.Dec.{eqb}
 use lib.ListN.{length, get_or, length-replicate}
 use Rattle.std.specs.Prelude.{Option, Some, None, Ok, replicate}
 use Rattle.lists.proofs.BoolLaws.{by_bool}
 use Rattle.lists.proofs.SearchLaws.{both}
-use Rattle.table.specs.Table.{head, stride, table_length, cell, status_column, finished_column, live, finished, row}
+use Rattle.table.specs.Table.{head, stride, cell, status_column, finished_column, live, finished, row}
 use Rattle.table.specs.Line.{line, row_of}
 use Rattle.table.specs.Rules.{numbered_table_refusal}
 use Rattle.table.proofs.Accepting.{Accepted, accepted}
 use Rattle.table.proofs.CellLaws.{line-holds, accepted-line, row_at}
 use Rattle.table.proofs.LineLaws.{line_at, line-length, line-row, row_of-length, row_of-at}
-use Rattle.station.specs.Outcome.{outcome_exchanged, outcome_tested_told}
+use Rattle.station.specs.Outcome.{outcome_finished, outcome_exchanged, outcome_tested_told}
 use Rattle.station.specs.Rows.{union}
 use Rattle.plant.specs.Turn.{makes_test, replies, turn, turn_tested, turn_outcome}
 use Rattle.plant.proofs.StepLines.{turn_lines}
-use Rattle.board.specs.Board.{tests, tested, next_station, turn_of, outcome, outcome_of, joined, message, sent, received}
+use Rattle.board.specs.Board.{tests, tested, next_station, turn_of, outcome, outcome_of, pass_finished, joined, message, sent, received}
 use Rattle.board.specs.Packed.{packed_length, pack, heard}
 use Rattle.board.specs.Calls.{live_check, turn_check, replied_check, row_check, sent_check, exchanged_check, next_answer, told_after, exchanged_after}
 use Rattle.board.proofs.PackedLaws.{back}
@@ -137,14 +136,14 @@ module _ (w n : ℕ) (t : List ℕ) (kind i : ℕ) (z : numbered_table_refusal w
   pub idle-leaves : makes_test w n t i ≡ false → tester_after w n i l None ≡ line n u i
   unfolding fitting heard_of
   idle-leaves m =
-      call-leaves None tt
-      ∙ (finish-turn w n t kind i acc.long h m None ∙ sym (finish-turn w n t kind i acc.long h m (reply_to w n t kind i)) ∙ sym same.tester)
+      let finishes : (r : Option (List ℕ)) → turn_of w n i l r ≡ pass_finished w n l = finish-turn w n t kind i acc.long h m in
+      call-leaves None tt ∙ (finishes None ∙ sym (finishes (reply_to w n t kind i)) ∙ sym same.tester)
 
   pub idle-answers : makes_test w n t i ≡ false → tester_answer w n i l None ≡ Ok (turn_outcome w n t kind i)
   unfolding fitting heard_of
   idle-answers m =
-      call-answers None tt
-      ∙ ap Ok (finish-outcome w n t kind i acc.long h m None ∙ sym (finish-outcome w n t kind i acc.long h m (reply_to w n t kind i)) ∙ sym same.outcome_number)
+      let finishes : (r : Option (List ℕ)) → outcome w n i l r ≡ outcome_finished = finish-outcome w n t kind i acc.long h m in
+      call-answers None tt ∙ ap Ok (finishes None ∙ sym (finishes (reply_to w n t kind i)) ∙ sym same.outcome_number)
 
   -- after an outcome that is neither the end of the pass nor no reply the board tested has replied
   replied : turn_outcome w n t kind i ≢ 0 → turn_outcome w n t kind i ≢ 3 → (makes_test w n t i ≡ true) × (replies n t kind j ≡ true)
@@ -189,7 +188,8 @@ module _ (w n : ℕ) (t : List ℕ) (kind i : ℕ) (z : numbered_table_refusal w
       let r = replied (λ q. omega arith) (λ q. omega arith) in
       let q : reply_to w n t kind i ≡ Some (row n t j) = rw (← same.tested_station, r.1) in
       let makes : tests w n i l ≡ true = tests-line n t i acc.long h w ∙ r.0 in
-      rw (same.tester, q) (row-after w n i l (row n t j) (line-length n t i acc.long h) makes (ap (outcome w n i l) (sym q) ∙ sym same.outcome_number ∙ o))
+      let exchanges : outcome w n i l (Some (row n t j)) ≡ outcome_exchanged = ap (outcome w n i l) (sym q) ∙ sym same.outcome_number ∙ o in
+      rw (same.tester, q) (row-after w n i l (row n t j) (line-length n t i acc.long h) makes exchanges)
 
   -- and its status
   still-live : turn_outcome w n t kind i ≡ outcome_exchanged → get_or (line n u i) status_column 0 ≡ 0

@@ -74,11 +74,14 @@ module _ (w n i : ℕ) (l r : List ℕ) (m j : ℕ) (long : length l ≡ stride 
   stays-live hj apart clear own alive =
       let rl : length (row_of n count) ≡ n = row_of-length n count count-long in
       let x : get_or (row_of n count) j 0 ≡ 0 = ap (λ (y : List ℕ). get_or y j 0) count-row ∙ (row_of-at n l j hj ∙ clear) in
-      let y : get_or new_row j 0 ≡ max (get_or (row_of n count) j 0) (get_or r j 0) = union-at (row_of n count) r i j (omega (arith, rl)) ∙ union-others (row_of n count) r i j apart in
+      let y : get_or new_row j 0 ≡ max (get_or (row_of n count) j 0) (get_or r j 0) =
+      union-at (row_of n count) r i j (omega (arith, rl)) ∙ union-others (row_of n count) r i j apart in
       let z : get_or new_line (head + j) 0 ≡ 0 = with_row-in n count new_row count-long row-long j hj ∙ omega (arith, x, y, own) in
       let q : self_or_suspected_by (suspicion_of new_line) i j ≡ false = rw (ne_eqb j i apart, z) in
-      let a : every (self_or_suspected_by (suspicion_of new_line) i) n ≡ false = every-not (self_or_suspected_by (suspicion_of new_line) i) n j hj q in
-      let s : get_or new_line status_column 0 ≡ 0 = with_row-head n count new_row count-long row-long status_column (omega arith) ∙ (count-status ∙ alive) in
+      let a : every (self_or_suspected_by (suspicion_of new_line) i) n ≡ false =
+      every-not (self_or_suspected_by (suspicion_of new_line) i) n j hj q in
+      let s : get_or new_line status_column 0 ≡ 0 =
+      with_row-head n count new_row count-long row-long status_column (omega arith) ∙ (count-status ∙ alive) in
       rw (a, and-false (eqb (get_or new_line status_column 0) 0)) s
 
 -- an exchange is made where neither suspects the other

@@ -1,10 +1,9 @@
 -- Fresh boards.
 -- Assumes nothing.
 use mathlib.Core.Path.{◌≡◌, sym, ◌∙◌}
-use mathlib.Core.List.{List}
-use Prim.Native.Nat.{ℕ, ◌+◌, ◌*◌, ◌%◌, ◌<◌}
+use Prim.Native.Nat.{ℕ, ◌+◌, ◌*◌, ◌<◌}
 use native.Mathlib.Omega.{arith}
-use lib.ListN.{length, get_or}
+use lib.ListN.{length}
 use Rattle.std.proofs.lemmas.Nat.{mod-mul-add}
 use Rattle.std.proofs.Math.Nat.{mod-eq_of_lt}
 use Rattle.lists.specs.Search.{list_of}
@@ -14,9 +13,9 @@ use Rattle.table.specs.Line.{line}
 use Rattle.table.specs.Fresh.{fresh_byte, fresh_table}
 use Rattle.table.proofs.CellLaws.{line-inside}
 use Rattle.table.proofs.LineLaws.{line_is}
-use Rattle.board.specs.Calls.{place_check}
+use Rattle.board.specs.Calls.{fresh_after}
+use Rattle.board.proofs.KeepsLaws.{good, fresh-is-one}
 use Rattle.cable.specs.Claims.{FreshBoards}
-use Rattle.cable.proofs.LineFacts.{Place, place}
 
 fresh-length : (n : ℕ) → length (fresh_table n) ≡ table_length n
 unfolding fresh_table
@@ -35,4 +34,4 @@ fresh-line n i h =
 
 -- fresh boards, an end in itself
 pub fresh-boards : FreshBoards
-fresh-boards w n i l e = rw e (sym (fresh-line n i (place w n i (length l) e).below))
+fresh-boards w n i l e = let g = good w n i (fresh_after w n i l) (fresh-is-one w n i l e) in rw e (sym (fresh-line n i g.below))

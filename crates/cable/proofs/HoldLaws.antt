@@ -1,6 +1,6 @@
 -- Boards that hold what a table has.
 -- Assumes nothing.
-use mathlib.Core.Path.{◌≡◌, sym, ap, ap₂, ◌∙◌}
+use mathlib.Core.Path.{◌≡◌, refl, sym, ap, ap₂, ◌∙◌}
 use mathlib.Core.Bool.{Bool, true, not, ◌&&◌}
 use mathlib.Core.List.{List}
 use Prim.Native.Nat.{ℕ, ◌<◌}
@@ -12,7 +12,7 @@ use Rattle.table.specs.Table.{status_column, finished_column, status, live}
 use Rattle.table.specs.Line.{line, is_live}
 use Rattle.table.specs.Rules.{some_live, live_finished, round_over}
 use Rattle.table.proofs.LineLaws.{line_at}
-use Rattle.cable.specs.Boards.{Lines, all_finished, Hold}
+use Rattle.cable.specs.Boards.{Lines, all_finished, Hold, LinesAreHeld}
 
 -- a line's status
 pub line-status : (n : ℕ) (t : List ℕ) (k : ℕ) → get_or (line n t k) status_column 0 ≡ status n t k
@@ -34,6 +34,10 @@ held n u k l e = (ap (λ (l : List ℕ). get_or l status_column 0) e ∙ line-st
 pub holds : (n : ℕ) (u : List ℕ) (b : Lines) → ((k : ℕ) → k < n → HoldsOne n u k (b k)) → Hold n u b
 unfolding HoldsOne
 holds n u b all = record { statuses = λ k hk. (all k hk).0; live_lines = λ k hk. (all k hk).1 }
+
+-- boards that hold the table's lines, an end in itself
+pub lines-are-held : LinesAreHeld
+lines-are-held n t = holds n t (line n t) (λ k hk. held n t k (line n t k) refl)
 
 module _ (n : ℕ) (t : List ℕ) (b : Lines) (hold : Hold n t b) where
   pub live-same : (k : ℕ) → k < n → is_live (b k) ≡ live n t k

@@ -45,7 +45,8 @@ module _ (w n : ℕ) (t : List ℕ) (kind i : ℕ) (long : length t ≡ table_le
 
     two-lines : turn w n t kind i ≡ set_line n (set_line n t i mine) j its
     two-lines =
-        by_lines n (turn w n t kind i) (set_line n (set_line n t i mine) j its) (full ∙ long) (set_line-length n _ j its one-long hj its-long ∙ one-long)
+        by_lines n (turn w n t kind i) (set_line n (set_line n t i mine) j its) (full ∙ long)
+        (set_line-length n _ j its one-long hj its-long ∙ one-long)
         (λ k hk. pick k hk (ℕ_discrete k j) (ℕ_discrete k i))
       where
         pick : (k : ℕ) → k < n → Dec (k ≡ j) → Dec (k ≡ i) → line n (turn w n t kind i) k ≡ line n (set_line n (set_line n t i mine) j its) k

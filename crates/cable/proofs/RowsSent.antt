@@ -1,9 +1,8 @@
 -- The rows that boards send: what is left of them after packing, and which row an exchange may send.
 -- Assumes nothing.
 use mathlib.Core.Path.{◌≡◌, sym, ap, ◌∙◌}
-use mathlib.Core.Logic.{◌≢◌}
 use mathlib.Core.List.{List}
-use Prim.Native.Nat.{ℕ, max, ◌+◌, ◌≤◌, ◌<◌}
+use Prim.Native.Nat.{ℕ, max, ◌+◌, ◌<◌}
 use native.Mathlib.Decide.{ℕ_discrete}
 use native.Mathlib.Omega.{arith}
 use lib.ListN.{length, get_or, set, length-set}
@@ -31,7 +30,9 @@ pub row_of-set : (n : ℕ) (l : List ℕ) (c v : ℕ) → length l ≡ stride n 
 row_of-set n l c v long h =
     let a : length (row_of n (set l c v)) ≡ n = row_of-length n (set l c v) (length-set l c v ∙ long) in
     ext_get_or 0 (row_of n (set l c v)) (row_of n l) (a ∙ sym (row_of-length n l long))
-    (λ k b. let hk : k < n = omega arith in row_of-at n (set l c v) k hk ∙ (get_or-set_other l c (head + k) v 0 (λ e. omega arith) ∙ sym (row_of-at n l k hk)))
+    (λ k b.
+    let hk : k < n = omega arith in
+    row_of-at n (set l c v) k hk ∙ (get_or-set_other l c (head + k) v 0 (λ e. omega arith) ∙ sym (row_of-at n l k hk)))
 
 pub row_of-with : (n : ℕ) (l r : List ℕ) → length l ≡ stride n → length r ≡ n → row_of n (with_row n l r) ≡ r
 row_of-with n l r long hr =

@@ -4,14 +4,14 @@ use mathlib.Core.Path.{◌≡◌, refl, sym, ap, ◌∙◌}
 use mathlib.Core.Logic.{◌≢◌}
 use mathlib.Core.Bool.{true, false, cond}
 use mathlib.Core.List.{List, [], ◌∷◌}
-use Prim.Native.Nat.{ℕ, suc, ◌-◌, min, ◌+◌, ◌≤◌, ◌<◌}
+use Prim.Native.Nat.{ℕ, suc, ◌-◌, ◌≤◌, ◌<◌}
 use native.Mathlib.Decide.{ℕ_discrete}
 use native.Mathlib.Omega.{arith}
 use borrow.Author.Tests.{eqb-true, eqb-false, eq-eqb, ne_eqb}
 use lib.Dec.{eqb}
 use lib.ListN.{length, get_or, set, take}
 use lib.Seq.{get_or-set_other}
-use Rattle.std.specs.Prelude.{Option, Some, None, Ok, Err}
+use Rattle.std.specs.Prelude.{Option, None, Ok, Err}
 use Rattle.lists.specs.Refusal.{Check, unless_refused}
 use Rattle.lists.proofs.BoolLaws.{by_bool}
 use Rattle.table.specs.Table.{table_length, status_column, next_column, finished_column, tests_column, rounds_ago_column, status_crashed, status, finished, live}
@@ -22,10 +22,9 @@ use Rattle.table.specs.Wiring.{wiring_check}
 use Rattle.table.proofs.Accepting.{Accepted, accepted}
 use Rattle.table.proofs.CellLaws.{Line, line-holds}
 use Rattle.table.proofs.LineLaws.{line-set, line-set-other}
-use Rattle.table.proofs.SizeLaws.{size_top}
 use Rattle.station.specs.Outcome.{outcome_exchanged, outcome_tested_told}
 use Rattle.station.specs.Step.{aged}
-use Rattle.plant.specs.Turn.{kind_turn, makes_test, replies, turn, turn_tested, turn_outcome, crash}
+use Rattle.plant.specs.Turn.{makes_test, replies, turn, turn_tested, turn_outcome, crash}
 use Rattle.plant.specs.Round.{reset_lines, after_round}
 use Rattle.plant.specs.Entry.{Entry, State, is_crash, entry_refusal, acted, after, tested_of, sheet_line}
 use Rattle.plant.specs.Entry.{outcome_of as entry_outcome}
@@ -34,8 +33,8 @@ use Rattle.plant.proofs.RoundLaws.{reset-other}
 use Rattle.plant.proofs.RunLaws.{accepted-number, start-facts}
 use Rattle.plant.proofs.RulesKept.{Takes, entry-facts, acted-lines, accepted-kept}
 use Rattle.board.specs.Board.{round_closed}
-use Rattle.board.specs.Calls.{line_check, next_answer, closed_after}
-use Rattle.cable.specs.Boards.{Lines, row_from, reply_from, tested_by, reply_to_test, tester_after, tester_answer, after_sending, after_turn, after_crash, after_act, all_finished, after_closing, after_entry, after_entries, entry_line, sheet_after, Hold, SameRun, BoardsDoTheRun}
+use Rattle.board.specs.Calls.{line_check, closed_after}
+use Rattle.cable.specs.Boards.{Lines, reply_from, tested_by, reply_to_test, tester_after, tester_answer, after_sending, after_turn, after_crash, after_act, after_closing, after_entry, after_entries, entry_line, sheet_after, Hold, BoardsDoTheRun}
 use Rattle.cable.proofs.TurnByLines.{tested-below, none-tested}
 use Rattle.cable.proofs.ClosingByLines.{closed-line}
 use Rattle.cable.proofs.LineFacts.{line-ok}
@@ -135,9 +134,11 @@ crashed n t b hold long i h alive = holds n (crash n t i) (after_crash b i) (λ 
     at k hk (yes e) =
         let f : b k ≡ line n t i = rw e (hold.live_lines i h alive) in
         rw (eq-eqb k i e, f, e)
-        (held n (crash n t i) i (set (line n t i) status_column status_crashed) (sym (line-set n t i status_column status_crashed long h (omega arith))))
+        (held n (crash n t i) i (set (line n t i) status_column status_crashed)
+        (sym (line-set n t i status_column status_crashed long h (omega arith))))
     at k hk (no d) =
-        rw (ne_eqb k i d) (kept n t b hold k hk (crash n t i) (line-set-other n t i status_column status_crashed k long hk (omega arith) (λ e. d (sym e))))
+        let e = line-set-other n t i status_column status_crashed k long hk (omega arith) (λ e. d (sym e)) in
+        rw (ne_eqb k i d) (kept n t b hold k hk (crash n t i) e)
 
 -- a closing leaves the status
 same-status : (l : List ℕ) → get_or (round_closed l) status_column 0 ≡ get_or l status_column 0
@@ -159,7 +160,8 @@ closed-status (Err r) l = refl
 pub closing : (w n : ℕ) (t : List ℕ) (b : Lines) → Hold n t b → wiring_check w ≡ Ok tt → is_size n ≡ true → length t ≡ table_length n
     → ((k : ℕ) → k < n → Line w n t k) → Hold n (after_round n t) (after_closing w n b)
 unfolding after_round after_closing
-closing w n t b hold wired size long lines = by_bool (round_over n t) (λ o. rw (over-same n t b hold, o) closed) (λ o. rw (over-same n t b hold, o) hold)
+closing w n t b hold wired size long lines =
+    by_bool (round_over n t) (λ o. rw (over-same n t b hold, o) closed) (λ o. rw (over-same n t b hold, o) hold)
   where
     was : (k : ℕ) → status n (reset_lines n t) k ≡ status n t k
     was k = reset-other n t k status_column (omega arith) (λ p. omega arith)
@@ -233,7 +235,8 @@ boards-do-the-run w n s b schedule sheet hold =
     (λ t.
     let r : RunResult = go_on w n 0 s sheet (entries schedule) in
     let x : r.taken - 0 ≡ r.taken = omega arith in
-    let a = (start-facts w n s.table (length schedule) (length sheet) (eqb-true (start_refusal w n s.table (length schedule) (length sheet)) 0 t)).0 in
+    let z = eqb-true (start_refusal w n s.table (length schedule) (length sheet)) 0 t in
+    let a = (start-facts w n s.table (length schedule) (length sheet) z).0 in
     let p = rw x at (run-on w n 0 s sheet (entries schedule) b a hold) in
     rw t (record { held = p.1; sheet_lines = p.2 }))
     (λ t. rw t (record { held = hold; sheet_lines = refl }))

@@ -1,24 +1,21 @@
 -- The table of n boards.
 -- Assumes nothing.
-use mathlib.Core.Path.{◌≡◌, sym, ap, ◌∙◌}
-use mathlib.Core.Bool.{true, false}
+use mathlib.Core.Path.{◌≡◌, sym, ◌∙◌}
 use mathlib.Core.List.{List}
 use Prim.Native.Nat.{ℕ, ◌+◌, ◌*◌, ◌/◌, ◌%◌, ◌<◌}
 use native.Mathlib.Omega.{arith}
 use lib.ListN.{length, get_or}
-use Rattle.std.specs.Prelude.{Ok}
 use Rattle.std.proofs.lemmas.Nat.{div-mul-add, mod-mul-add}
 use Rattle.lists.proofs.SearchLaws.{every-all, list_of-length, list_of-at}
 use Rattle.table.specs.Table.{stride, table_length, line_start, cell}
 use Rattle.table.specs.Line.{line}
-use Rattle.table.specs.Rules.{wired_line_rules, round_over, numbered_table_refusal}
-use Rattle.table.proofs.Accepting.{Accepted}
+use Rattle.table.specs.Rules.{wired_line_rules}
 use Rattle.table.proofs.CellLaws.{line-inside}
 use Rattle.table.proofs.LineLaws.{line_is}
 use Rattle.plant.proofs.RunLaws.{accepted-number}
-use Rattle.board.specs.Calls.{line_rules, line_check}
-use Rattle.cable.specs.Boards.{Lines, all_finished, Hold, table_of, BoardsMakeATable}
-use Rattle.cable.proofs.LineFacts.{rules-same, Place, let-through}
+use Rattle.board.proofs.KeepsLaws.{Good, good}
+use Rattle.cable.specs.Boards.{Lines, Hold, table_of, BoardsMakeATable}
+use Rattle.cable.proofs.LineFacts.{rules-same, rules-of}
 use Rattle.cable.proofs.HoldLaws.{held, holds, over-same}
 
 module _ (n : ℕ) (b : Lines) where
@@ -39,23 +36,25 @@ module _ (n : ℕ) (b : Lines) where
 
 -- lines that are let through make a table, an end in itself
 pub boards-make-a-table : BoardsMakeATable
-boards-make-a-table w n b some through going =
-    (accepted-number w n t (record {
-      wired = (facts 0 some).0.wired;
-      size = (facts 0 some).0.size;
-      long = table-length n b;
-      lines = every-all (wired_line_rules w n t) n (λ k hk. sym (rules-same w n t k hk) ∙ rw (same k hk) (facts k hk).1);
-      unclosed = sym (over-same n t b hold) ∙ going;
-    }), hold)
+boards-make-a-table w n b some through going = (
+  accepted-number w n t (record {
+    wired = (facts 0 some).wired;
+    size = (facts 0 some).size;
+    long = table-length n b;
+    lines = every-all (wired_line_rules w n t) n (λ k hk. sym (rules-same w n t k hk) ∙ rw (same k hk) (rules-of w n k (b k) (through k hk)));
+    unclosed = sym (over-same n t b hold) ∙ going;
+  }),
+  hold,
+)
   where
     t : List ℕ
     t = table_of n b
 
-    facts : (k : ℕ) → k < n → Place w n k (length (b k)) × (line_rules w n k (b k) ≡ true)
-    facts k hk = let-through w n k (b k) (through k hk)
+    facts : (k : ℕ) → k < n → Good w n k (b k)
+    facts k hk = good w n k (b k) (through k hk)
 
     same : (k : ℕ) → k < n → line n t k ≡ b k
-    same k hk = table-line n b k hk (facts k hk).0.long
+    same k hk = table-line n b k hk (facts k hk).long
 
     hold : Hold n t b
     hold = holds n t b (λ k hk. held n t k (b k) (sym (same k hk)))

@@ -66,11 +66,13 @@ module _ (n : ℕ) (t : List ℕ) (i : ℕ) (long : length t ≡ table_length n)
   pub count-line : (w m o : ℕ) → line n (count_test w n t i m o) i ≡ counted w n (line n t i) m o
   unfolding count_test counted
   count-line w m o =
-      rw (line_at n t i tests_column (omega arith)) (two next_column (next_after w n m o) tests_column (tests_made n t i + 1) (omega arith) (omega arith))
+      rw (line_at n t i tests_column (omega arith))
+      (two next_column (next_after w n m o) tests_column (tests_made n t i + 1) (omega arith) (omega arith))
 
   pub count-others : (w m o k : ℕ) → k < n → i ≢ k → line n (count_test w n t i m o) k ≡ line n t k
   unfolding count_test
-  count-others w m o k hk apart = two-other next_column (next_after w n m o) tests_column (tests_made n t i + 1) k (omega arith) (omega arith) hk apart
+  count-others w m o k hk apart =
+      two-other next_column (next_after w n m o) tests_column (tests_made n t i + 1) k (omega arith) (omega arith) hk apart
 
   -- a station is told
   pub told-line : (b : ℕ) → line n (leave_told n t i b) i ≡ left_told (line n t i) b
@@ -153,7 +155,8 @@ module _ (n : ℕ) (t : List ℕ) (i j : ℕ) (long : length t ≡ table_length 
     unfolding exchange_rows joined mine its
     tester-joins =
         rw (line-row n t i long hi)
-        (line-set_row-other n (set_row n t i mine) j its i first-long hj hi its-long (λ e. apart (sym e)) ∙ line-set_row n t i mine long hi mine-long)
+        (line-set_row-other n (set_row n t i mine) j its i first-long hj hi its-long (λ e. apart (sym e))
+        ∙ line-set_row n t i mine long hi mine-long)
 
     tested-joins : line n (exchange_rows n t i j) j ≡ joined n j (line n t j) (row n t i)
     unfolding exchange_rows joined mine its
@@ -187,7 +190,8 @@ module _ (n : ℕ) (t : List ℕ) (i j : ℕ) (long : length t ≡ table_length 
         (λ a.
         by_bool (eqb o outcome_tested_told) (λ b. rw (a, b) (leave_told-length n t j i))
         (λ b.
-        by_bool (eqb o outcome_exchanged) (λ c. rw (a, b, c) (exchange-length n t i long hi j hj apart)) (λ c. rw (a, b, c) (suspect-length n t i long hi j))))
+        by_bool (eqb o outcome_exchanged) (λ c. rw (a, b, c) (exchange-length n t i long hi j hj apart))
+        (λ c. rw (a, b, c) (suspect-length n t i long hi j))))
 
     -- what comes of it, by its outcome o
     pub tester-outcome : (o : ℕ) (r : List ℕ) → (o ≡ outcome_exchanged → r ≡ row n t j)

@@ -112,6 +112,10 @@ pub record Hold (n : ℕ) (t : List ℕ) (b : Lines) : Type 0 where
   pub statuses : (k : ℕ) → k < n → slice_index (b k) status_column ≡ status n t k
   pub live_lines : (k : ℕ) → k < n → live n t k ≡ true → b k ≡ line n t k
 
+-- boards that hold the lines of a table do
+abbrev pub LinesAreHeld : Type 0
+LinesAreHeld = (n : ℕ) (t : List ℕ) → Hold n t (line n t)
+
 -- Rule Boards do the run: boards that hold what the table has do so after as many entries as the run took, and its sheet shows what they answered
 pub record SameRun (w n : ℕ) (b : Lines) (schedule sheet : List ℕ) (o : RunResult) : Type 0 where
   pub held : Hold n o.state.table (after_entries w n b (take o.taken (entries schedule)))
@@ -127,8 +131,8 @@ BoardsDoTheRun =
 unfoldable pub table_of : ℕ → Lines → List ℕ
 table_of n b = list_of (λ p. slice_index (b (p / stride n)) (p % stride n)) (table_length n)
 
--- Rule Boards make a table: where the calls of each board let its line through, and the round is not over, refusals 24 and 1 to 4 let this table
--- through, and the boards hold what it has
+-- where the calls of each board let its line through, and the round is not over, refusals 24 and 1 to 4 let this table through, and the boards
+-- hold what it has
 abbrev pub BoardsMakeATable : Type 0
 BoardsMakeATable =
     (w n : ℕ) (b : Lines) → 0 < n → ((k : ℕ) → k < n → line_check w n k (b k) ≡ Ok tt) → all_finished n b ≡ false

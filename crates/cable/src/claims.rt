@@ -1,7 +1,7 @@
 // What is claimed of n boards, each with its own line (specs/Claims.antt, specs/Boards.antt), each the contract of a function that does nothing.
 
 ghost use Rattle.cable.specs.Claims.{BoardsDoTheTurn, TurnIsByLines, BoardsCloseTheRound, EitherRowServes, RowsTravel, LinesOfTables, FreshBoards};
-ghost use Rattle.cable.specs.Boards.{BoardsDoTheRun, BoardsMakeATable};
+ghost use Rattle.cable.specs.Boards.{LinesAreHeld, BoardsDoTheRun, BoardsMakeATable};
 
 // Two boards do what the table's turn does, each by its own line.
 pub fn boards_do_the_turn()
@@ -38,12 +38,17 @@ pub fn fresh_boards()
     ensures { FreshBoards }
 {}
 
-// Boards whose lines are let through make a table that is.
-pub fn boards_make_a_table()
-    ensures { BoardsMakeATable }
-{}
-
 // n boards, each by its calls alone, do what a run does on the table.
 pub fn boards_do_the_run()
     ensures { BoardsDoTheRun }
+{}
+
+// For every table there are boards that hold what it has.
+pub fn lines_are_held()
+    ensures { LinesAreHeld }
+{}
+
+// And for all boards whose lines are let through, a table.
+pub fn boards_make_a_table()
+    ensures { BoardsMakeATable }
 {}
