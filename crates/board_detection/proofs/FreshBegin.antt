@@ -6,7 +6,7 @@ use mathlib.Core.List.{List}
 use Prim.Native.Nat.{ℕ, ◌+◌, ◌≤◌, ◌<◌}
 use native.Mathlib.Omega.{arith}
 use lib.Dec.{eqb}
-use lib.ListN.{length, get_or}
+use lib.ListN.{get_or}
 use Rattle.lists.specs.Sums.{bit}
 use Rattle.lists.proofs.SumLaws.{sum_by}
 use Rattle.table.specs.Table.{head, stride, cell, status_column, next_column, finished_column, tests_column, live}
@@ -19,8 +19,9 @@ use Rattle.plant.proofs.RunLaws.{accepted-number}
 use Rattle.detection.proofs.DetectionClaim.{trusts, first_round}
 use Rattle.detection.proofs.FreshStart.{fresh-accepted, fresh-premises}
 use Rattle.board.specs.Calls.{fresh_after}
+use Rattle.board.proofs.KeepsLaws.{good, fresh-is-one}
 use Rattle.cable.specs.Boards.{Lines}
-use Rattle.cable.proofs.LineFacts.{place, lines-of-tables}
+use Rattle.cable.proofs.LineFacts.{lines-of-tables}
 use Rattle.cable.proofs.FreshLines.{fresh-boards}
 use Rattle.board_detection.specs.Detect.{live_boards, BoardsBegin, FreshBoardsBegin}
 
@@ -51,7 +52,7 @@ module _ (w n : ℕ) (t : List ℕ) (ok : Accepted w n t) (start : at_start n t 
 -- an end in itself
 pub fresh-boards-begin : FreshBoardsBegin
 fresh-boards-begin w n b fits some =
-    let first = place w n 0 (length (b 0)) (fits 0 some) in
+    let first = good w n 0 (fresh_after w n 0 (b 0)) (fresh-is-one w n 0 (b 0) (fits 0 some)) in
     let ok = accepted w n (fresh_table n) (fresh-accepted n w first.wired first.size) in
     let given = fresh-premises w n 0 0 first.wired first.size in
     lines-begin w n (fresh_table n) ok given.start given.two_live given.accurate (λ i. fresh_after w n i (b i))

@@ -32,7 +32,7 @@ use Rattle.detection.proofs.TakenLaws.{taken_at}
 use Rattle.detection.proofs.Counting.{Counts, turn-counts, closes-is}
 use Rattle.board.specs.Calls.{live_check, turn_check, next_answer}
 use Rattle.cable.specs.Boards.{after_entry, Lines, Hold, after_act, all_finished}
-use Rattle.cable.proofs.LineFacts.{let-through}
+use Rattle.board.proofs.KeepsLaws.{good}
 use Rattle.cable.proofs.HoldLaws.{live-same, over-same}
 use Rattle.cable.proofs.TurnByLines.{tested-below}
 use Rattle.cable.proofs.CallsOnCable.{asks}
@@ -58,7 +58,7 @@ going w n i l e =
     let p = and_ok _ _ tt e in
     let q = and_ok _ _ tt p.0 in
     record {
-      below = (let-through w n i l q.0).0.below;
+      below = (good w n i l q.0).below;
       alive = ensure_ok _ _ _ q.1;
       unfinished = eqb-false _ 1 (not-true _ (ensure_ok _ _ _ p.1));
     }
