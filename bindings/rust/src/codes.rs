@@ -1,7 +1,7 @@
 //! Refusals, kinds, statuses and outcomes: the numbers of docs/RULES.md as types.
 
-use std::error::Error;
-use std::fmt;
+use core::error::Error;
+use core::fmt;
 
 /// An enum whose cases have the numbers of the rules, and the words of the
 /// library.
@@ -36,7 +36,7 @@ macro_rules! numbered {
             ///
             /// ```
             #[doc = concat!("assert!(vcube::", stringify!($name), "::from_number(2).is_some());")]
-            #[doc = concat!("assert!(vcube::", stringify!($name), "::from_number(25).is_none());")]
+            #[doc = concat!("assert!(vcube::", stringify!($name), "::from_number(26).is_none());")]
             /// ```
             #[must_use]
             pub const fn from_number(number: u8) -> Option<$name> {

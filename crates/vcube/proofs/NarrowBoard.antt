@@ -57,7 +57,7 @@ module _ (w n : ℕ) where
   place_far len =
       behind (wiring_check w) _
       (λ a. behind (ensure (is_size n) SizeOutOfRange) _
-        (λ z. before _ _ (record { why = NoSuchStation; far = λ x. station_far n x (ensure_ok _ _ tt z) })))
+      (λ z. before _ _ (record { why = NoSuchStation; far = λ x. station_far n x (ensure_ok _ _ tt z) })))
 
   line_far : (l : List ℕ) → Far (λ i. line_check w n i l)
   unfolding line_check
