@@ -1,5 +1,6 @@
 //! Calls of a board. Its line is one of a table, and what it hears is mostly the row of another line of that table.
 
+use shared::groups::SIZES;
 use shared::random::Random;
 use shared::table::{line_length, live_stations, unfinished_stations, HEAD, STATUS};
 use shared::wiring::Wiring;
@@ -15,11 +16,13 @@ pub fn call(wiring: Wiring, n: Size, random: &mut Random) -> Call {
     let table = tables::valid(wiring, n, random);
     let own = board_of(n, &table, random);
     let line = line_of(own, n, &table, random);
+    let number = wiring.number();
     let given = Given {
-        wiring: wiring.number(),
+        wiring: number,
         n,
         own: own as u8,
     };
+    // Any, where it is none.
     let tested = usize::from(board_next(given, &line).1);
     let other = (own + random.between(1, n - 1)) % n;
     let [wiring, asked, own_given, line] = arguments(wiring, own, n, line, random);
@@ -125,7 +128,7 @@ fn arguments(
     if often && random.once_in(2) {
         line[STATUS] = random.between(4, 255) as u8;
     }
-    let right = match asked < BITS * BITS && random.once_in(2) {
+    let right = match SIZES.contains(&asked) && random.once_in(2) {
         true => line_length(asked),
         false => line_length(n),
     };
