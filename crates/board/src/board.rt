@@ -33,9 +33,9 @@ pub(crate) const HEAD: usize = cells::HEAD as usize;
 
 // A board's place in its plant: the wiring and the size of the plant, and the board's own number.
 #[derive(Clone, Copy)]
-pub struct Board {
-    pub wired: Wired,
-    pub own: Station,
+pub(crate) struct Board {
+    pub(crate) wired: Wired,
+    pub(crate) own: Station,
     ghost below: { own.0 < wired.n },
 }
 
@@ -76,7 +76,8 @@ impl Board {
         ensures { let w = wiring_number self.wired.wiring in
             result.0 ≡ next_of w self.wired.n self.own.0 line.now }
     {
-        self.wired.next_due(self.row(line), self.own, Distance(line[NEXT]))
+        self.wired
+            .next_due(self.row(line), self.own, Distance(line[NEXT]))
     }
 
     // Whom the board tests next; nobody where its pass is at its end.

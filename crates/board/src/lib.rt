@@ -4,8 +4,10 @@
 // the claims of specs/Packed.antt and specs/Keeps.antt.
 #![tactic(auto)]
 
-pub mod board;
+mod board;
 pub mod calls;
 mod checks;
 pub mod claims;
-pub mod packed;
+mod packed;
+#[cfg(test)]
+mod tests;

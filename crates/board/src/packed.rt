@@ -6,7 +6,7 @@ use table::Station;
 
 // Packs a row of at most 64 stations.
 #[tactic(auto, using(lists::proofs::Loops::loops), unfolding(crate::specs::Packed::pack))]
-pub fn pack(row: &[u8], packed: &mut [u8])
+pub(crate) fn pack(row: &[u8], packed: &mut [u8])
     requires size { length row.now ≤ 64 }
     requires room { length packed.old ≡ packed_length (length row.now) }
     ensures { packed.new ≡ pack (length row.now) row.now }
@@ -39,7 +39,7 @@ fn suspicion(row: &[u8], k: usize) -> u8
 
 // The row that a packed one from station `from` stands for, as one of 64 stations: the row of a smaller plant is its front.
 #[tactic(auto, using(lists::proofs::Loops::loops), unfolding(crate::specs::Packed::heard))]
-pub fn heard(from: Station, packed: &[u8]) -> [u8; 64]
+pub(crate) fn heard(from: Station, packed: &[u8]) -> [u8; 64]
     ensures { result ≡ heard 64 from.0 packed.now }
 {
     let mut row = [0u8; 64];
