@@ -196,7 +196,7 @@ fn heard(own: usize, from: usize, n: Size, table: &[u8], random: &mut Random) ->
     if random.once_in(3) {
         put(from, 1);
     }
-    if random.once_in(3) && n % BITS != 0 {
+    if random.once_in(3) && !n.is_multiple_of(BITS) {
         packed[n / BITS] |= random.byte() << (n % BITS);
     }
     if random.once_in(8) {
