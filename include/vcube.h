@@ -29,9 +29,9 @@
  * that type. What a call writes must not overlap with anything else of that call; what it only reads (pointers to const) may overlap.
  *
  * Errors. Each call but vcube_version returns 0 or an error code (enum vcube_refusal), the first in its list that applies. With an error it is
- * refused: it changes no byte of a buffer (table, list, sheet, report, saved plant, words, an input's schedule), and the numbers and structs that
- * it gives are 0. But a run that stops at an entry (7 to 11) and a drive that stops before a grant (7) keep the work done before, and give its
- * numbers. Any other refused run or drive leaves tally and last granted number as they were.
+ * refused: it changes no byte of a buffer (table, line, packed row, list, sheet, report, saved plant, words, an input's schedule), and the numbers
+ * and structs that it gives are 0. But a run that stops at an entry (7 to 11) and a drive that stops before a grant (7) keep the work done before,
+ * and give its numbers. Any other refused run or drive leaves tally and last granted number as they were.
  *
  * Wiring. A plant is wired as the cube or as the ring; the first argument of calls that depend on it says which. Give the same in all calls of a
  * plant: neither library nor table keeps it. Group list, assignment, slot and saved plants are for the cube. A finished line has next distance
@@ -73,11 +73,11 @@
 #include <stdint.h>
 
 #define VCUBE_VERSION_MAJOR 1
-#define VCUBE_VERSION_MINOR 2
+#define VCUBE_VERSION_MINOR 3
 #define VCUBE_VERSION_PATCH 0
-#define VCUBE_VERSION "1.2.0"
+#define VCUBE_VERSION "1.3.0"
 
-/* The version as one number: 10200 is 1.2.0. */
+/* The version as one number: 10300 is 1.3.0. */
 #define VCUBE_VERSION_NUMBER (10000 * VCUBE_VERSION_MAJOR + 100 * VCUBE_VERSION_MINOR + VCUBE_VERSION_PATCH)
 
 #ifdef __cplusplus
@@ -93,6 +93,10 @@ extern "C" {
 
 /* The length of a table of n stations. */
 #define VCUBE_TABLE_LENGTH(n) ((size_t)(n) * ((size_t)(n) + VCUBE_HEAD))
+
+/* The length of a board's own line, and of a row on the cable. */
+#define VCUBE_LINE_LENGTH(n) ((size_t)(n) + VCUBE_HEAD)
+#define VCUBE_PACKED_LENGTH(n) (((size_t)(n) + 7) / 8)
 
 /* The length of a saved plant of n stations. */
 #define VCUBE_SAVED_LENGTH(n) (19 + (size_t)(n) * ((size_t)(n) + 10))
@@ -113,7 +117,8 @@ extern "C" {
 /* In an assignment: this distance is due. */
 #define VCUBE_DUE 255
 
-/* In the sheet: no station was tested. Of the doubt lamp: there is no pair. As the last granted number: none was granted yet. */
+/* In the sheet: no station was tested. Of the doubt lamp: there is no pair. As the last granted number: none was granted yet. Of a board's next
+ * test: there is none. */
 #define VCUBE_NO_STATION 255
 
 /* Byte 4 of a line: no station told this one to leave. It is live, crashed, or left because alone. */
@@ -137,7 +142,7 @@ enum vcube_refusal {
     VCUBE_ACCEPTED = 0,
     VCUBE_REFUSED_SIZE_OUT_OF_RANGE = 1,    /* a plant has 2 to 64 boards */
     VCUBE_REFUSED_TABLE_LENGTH = 2,         /* the table's length is not n(n + 6) */
-    VCUBE_REFUSED_LINE_RULE = 3,            /* a line of the table breaks a line rule */
+    VCUBE_REFUSED_LINE_RULE = 3,            /* a line breaks a line rule */
     VCUBE_REFUSED_ROUND_NOT_CLOSED = 4,     /* every live board has finished its pass, but the round is not closed (some board is live) */
     VCUBE_REFUSED_SCHEDULE_LENGTH = 5,      /* the schedule has an odd number of bytes */
     VCUBE_REFUSED_SHEET_LENGTH = 6,         /* the run sheet is not twice as long as the schedule */
@@ -148,8 +153,9 @@ enum vcube_refusal {
     VCUBE_REFUSED_NOT_LIVE = 10,            /* this board is not live */
     VCUBE_REFUSED_PASS_FINISHED = 11,       /* this board has already finished its pass in this round (and the kind is 1 or 2) */
     VCUBE_REFUSED_NO_SUCH_LEVEL = 12,       /* there is no such level: levels go from 1 to d */
-    VCUBE_REFUSED_LIST_LENGTH = 13,         /* the list or buffer for the answer has the wrong length (group list: vcube_group_length; assignment: 2
-                                             * * (n - 1); saved plant: 19 + n * (n + 10); words: 128; schedule of an input: 8192) */
+    VCUBE_REFUSED_LIST_LENGTH = 13,         /* the list or buffer for the answer has the wrong length (group list: vcube_group_length; packed row:
+                                             * (n + 7) / 8; assignment: 2 * (n - 1); saved plant: 19 + n * (n + 10); words: 128; schedule of an
+                                             * input: 8192) */
     VCUBE_REFUSED_NO_RESULT = 14,           /* there are no results to compute figures from (in both lists together, where two are given) */
     VCUBE_REFUSED_TOO_MANY_RESULTS = 15,    /* there are more than 4,096 results, or the totals are higher than 4,096 results can give (in both
                                              * lists together) */
@@ -162,7 +168,8 @@ enum vcube_refusal {
     VCUBE_REFUSED_NO_OPENING = 21,          /* the file does not begin as edition 2 does; if it is of edition 1, convert it first */
     VCUBE_REFUSED_FIELD_ORDER = 22,         /* a field is out of order or has an unknown tag (a conversion looks for the tag only) */
     VCUBE_REFUSED_REPORT_TOO_SHORT = 23,    /* the buffer for the report has fewer than 4n(n + 6) bytes */
-    VCUBE_REFUSED_NO_SUCH_WIRING = 24       /* the wiring is neither 1, the cube, nor 2, the ring */
+    VCUBE_REFUSED_NO_SUCH_WIRING = 24,      /* the wiring is neither 1, the cube, nor 2, the ring */
+    VCUBE_REFUSED_LINE_LENGTH = 25          /* the length of the board's line is not n + 6 */
 };
 
 /* Byte 0 of an entry of a schedule. */
@@ -408,6 +415,66 @@ uint8_t vcube_outcome_words(size_t outcome, uint8_t *words, size_t words_length)
  * Errors: 13, for a schedule or words of another length. */
 uint8_t vcube_read_input(const uint8_t *input, size_t input_length, uint8_t *schedule, size_t schedule_length, uint8_t *words,
                          size_t words_length, size_t *n, size_t *entries, size_t *line);
+
+/* A board's own half. Above, one table holds the whole plant. With the calls below each board keeps its own line and nothing else, and the boards
+ * send each other four kinds of message: test, reply, told and exchange. Together they do what a run does on the table (RULES, "Boards on the
+ * cable").
+ *
+ * The line has VCUBE_LINE_LENGTH(n) bytes and is what line `board` of a table would be; `board` is the board's own number. On the cable a row has
+ * VCUBE_PACKED_LENGTH(n) bytes: board k has bit k % 8 of byte k / 8, bit 0 the lowest, which is 1 if it is suspected. Whatever bytes come, they
+ * are taken as a row (Rule Heard row).
+ *
+ * A turn: vcube_board_next names the board to be tested. If there is one, the board sends it a test, and if that board is live, it replies with
+ * its row (vcube_board_row) and changes nothing. If the reply comes in time, the board calls vcube_board_replied, which gives the outcome; if not,
+ * or if there was none to be tested, vcube_board_not_replied. After VCUBE_OUTCOME_TESTED_TOLD it sends told to the tested board, which calls
+ * vcube_board_told. After VCUBE_OUTCOME_EXCHANGED it sends its row (vcube_board_row), which the tested board hands to vcube_board_exchanged.
+ * After any other outcome it sends nothing. A reply that comes later is thrown away.
+ *
+ * When a round closes, all boards are told so, live or not (vcube_board_round_closed). The bus master knows it: some board is live, and every
+ * live one has finished its pass.
+ *
+ * That is for a cable that loses nothing. On one that loses frames a board computes a turn on a copy of its line, which becomes its line once the
+ * bus master has noted that turn (RULES, "Entries in force").
+ *
+ * The errors of each call are among these, in this order: 24, 1, 9 (board is n or more), 25, 3, 10, 11, 9 (by or from is n or more, or is board
+ * itself), 13 (the packed row has another length). No call leaves a line that gets 25 or 3 in the next (Rule Line kept). */
+
+/* Board fresh: the line becomes a line of a fresh table.
+ * Errors: 24, 1, 9, 25. */
+uint8_t vcube_board_fresh(size_t wiring, size_t n, size_t board, uint8_t *line, size_t line_length);
+
+/* Board next: the board that the next turn tests, into *tested; VCUBE_NO_STATION where there is none, so that the turn finishes the pass.
+ * Errors: 24, 1, 9, 25, 3, 10, 11. */
+uint8_t vcube_board_next(size_t wiring, size_t n, size_t board, const uint8_t *line, size_t line_length, size_t *tested);
+
+/* Board row: the board's row, packed, as a reply or an exchange. A board that is not live gets 10, and sends nothing.
+ * Errors: 24, 1, 9, 25, 3, 10, 13. */
+uint8_t vcube_board_row(size_t wiring, size_t n, size_t board, const uint8_t *line, size_t line_length, uint8_t *packed,
+                        size_t packed_length);
+
+/* Board replied: the turn, with the reply of the board that vcube_board_next names; its outcome (enum vcube_outcome) into *outcome. Where it
+ * names none, the turn finishes the pass, and the reply is not looked at.
+ * Errors: 24, 1, 9, 25, 3, 10, 11, 13. */
+uint8_t vcube_board_replied(size_t wiring, size_t n, size_t board, uint8_t *line, size_t line_length, const uint8_t *packed,
+                            size_t packed_length, size_t *outcome);
+
+/* Board not replied: the turn without a reply in time; *outcome is VCUBE_OUTCOME_NO_REPLY, or VCUBE_OUTCOME_PASS_FINISHED where
+ * vcube_board_next names none.
+ * Errors: 24, 1, 9, 25, 3, 10, 11. */
+uint8_t vcube_board_not_replied(size_t wiring, size_t n, size_t board, uint8_t *line, size_t line_length, size_t *outcome);
+
+/* Board told: the board leaves, told by the board `by`, which tested it.
+ * Errors: 24, 1, 9, 25, 3, 10, 9. */
+uint8_t vcube_board_told(size_t wiring, size_t n, size_t board, uint8_t *line, size_t line_length, size_t by);
+
+/* Board exchanged: the board joins into its row that of the board `from`, which tested it.
+ * Errors: 24, 1, 9, 25, 3, 10, 9, 13. */
+uint8_t vcube_board_exchanged(size_t wiring, size_t n, size_t board, uint8_t *line, size_t line_length, size_t from, const uint8_t *packed,
+                              size_t packed_length);
+
+/* Board round closed: closes the round in the board's line.
+ * Errors: 24, 1, 9, 25, 3. */
+uint8_t vcube_board_round_closed(size_t wiring, size_t n, size_t board, uint8_t *line, size_t line_length);
 
 #ifdef __cplusplus
 }

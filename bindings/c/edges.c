@@ -148,6 +148,26 @@ static void null_words(void)
            "NULL: the words of an input");
 }
 
+/* The calls of a board on its own line. */
+static void null_lines(void)
+{
+    uint8_t line[VCUBE_LINE_LENGTH(N)], packed[VCUBE_PACKED_LENGTH(N)] = {0};
+    size_t given = ANY;
+
+    expect(vcube_board_fresh(RING, N, 1, NULL, 0) == VCUBE_REFUSED_LINE_LENGTH, "NULL: board fresh");
+    expect(vcube_board_next(RING, N, 1, NULL, 0, &given) == VCUBE_REFUSED_LINE_LENGTH && given == 0, "NULL: board next");
+    expect(vcube_board_row(RING, N, 1, NULL, 0, packed, sizeof packed) == VCUBE_REFUSED_LINE_LENGTH, "NULL: board row");
+    expect(vcube_board_replied(RING, N, 1, NULL, 0, packed, sizeof packed, &given) == VCUBE_REFUSED_LINE_LENGTH, "NULL: board replied");
+    expect(vcube_board_not_replied(RING, N, 1, NULL, 0, &given) == VCUBE_REFUSED_LINE_LENGTH, "NULL: board not replied");
+    expect(vcube_board_told(RING, N, 1, NULL, 0, 2) == VCUBE_REFUSED_LINE_LENGTH, "NULL: board told");
+    expect(vcube_board_exchanged(RING, N, 1, NULL, 0, 2, packed, sizeof packed) == VCUBE_REFUSED_LINE_LENGTH, "NULL: board exchanged");
+    expect(vcube_board_round_closed(RING, N, 1, NULL, 0) == VCUBE_REFUSED_LINE_LENGTH, "NULL: board round closed");
+    expect(vcube_board_fresh(RING, N, 1, line, sizeof line) == VCUBE_ACCEPTED, "a fresh line");
+    expect(vcube_board_row(RING, N, 1, line, sizeof line, NULL, 0) == VCUBE_REFUSED_LIST_LENGTH, "NULL: the row of a board");
+    expect(vcube_board_replied(RING, N, 1, line, sizeof line, NULL, 0, &given) == VCUBE_REFUSED_LIST_LENGTH, "NULL: a reply");
+    expect(vcube_board_exchanged(RING, N, 1, line, sizeof line, 2, NULL, 0) == VCUBE_REFUSED_LIST_LENGTH, "NULL: an exchange");
+}
+
 static void null_buffers(void)
 {
     uint8_t table[TABLE], saved[VCUBE_SAVED_LENGTH(N)];
@@ -159,6 +179,7 @@ static void null_buffers(void)
     null_files(saved);
     null_lists();
     null_words();
+    null_lines();
 }
 
 /* What is only read may overlap: the two lists of figures, and the two totals of a join. */
@@ -188,9 +209,10 @@ struct given {
     uint8_t saved[VCUBE_SAVED_LENGTH(64)], loaded[VCUBE_TABLE_LENGTH(64)], converted[VCUBE_SAVED_LENGTH(64)];
     uint8_t group[VCUBE_LONGEST_GROUP], assignment[VCUBE_ASSIGNMENT_LENGTH(64)];
     uint8_t words[3][VCUBE_WORDS_LENGTH], schedule[VCUBE_SCHEDULE_LENGTH], unread[VCUBE_WORDS_LENGTH];
+    uint8_t line[VCUBE_LINE_LENGTH(64)], packed[VCUBE_PACKED_LENGTH(64)];
     struct vcube_figures figures[2];
     struct vcube_totals totals;
-    size_t numbers[24];
+    size_t numbers[28];
     uint32_t tally[4];
 };
 
@@ -325,6 +347,38 @@ static void other_calls(size_t n, struct given *given)
     expect(vcube_totals_of_list(list + begin % 4, 8, &given->totals) == VCUBE_ACCEPTED, "alignment: totals");
 }
 
+/* The calls of board 4 on its own line: 5 does not reply, the next one does; board 1 sends an exchange; the round closes, and 1 tells it to
+ * leave. */
+static void calls_on_line(size_t n, struct given *given)
+{
+    const size_t length = VCUBE_LINE_LENGTH(n), packed_length = VCUBE_PACKED_LENGTH(n);
+    const uint8_t nobody[VCUBE_PACKED_LENGTH(64)] = {0}, two[VCUBE_PACKED_LENGTH(64)] = {1 << 2};
+    size_t *numbers = given->numbers;
+    uint8_t *line, *packed;
+
+    line = lend(given->line, length);
+    take(vcube_board_fresh(RING, n, 4, line, length), line, given->line, length);
+    line = lend(given->line, length);
+    take(vcube_board_next(RING, n, 4, line, length, &numbers[22]), line, given->line, length);
+    line = lend(given->line, length);
+    take(vcube_board_not_replied(RING, n, 4, line, length, &numbers[23]), line, given->line, length);
+    line = lend(given->line, length);
+    packed = lend(nobody, packed_length);
+    take(vcube_board_replied(RING, n, 4, line, length, packed, packed_length, &numbers[24]), line, given->line, length);
+    line = lend(given->line, length);
+    packed = lend(two, packed_length);
+    take(vcube_board_exchanged(RING, n, 4, line, length, 1, packed, packed_length), line, given->line, length);
+    line = lend(given->line, length);
+    packed = lend(nobody, packed_length);
+    take(vcube_board_row(RING, n, 4, line, length, packed, packed_length), packed, given->packed, packed_length);
+    line = lend(given->line, length);
+    take(vcube_board_next(RING, n, 4, line, length, &numbers[25]), line, given->line, length);
+    line = lend(given->line, length);
+    take(vcube_board_round_closed(RING, n, 4, line, length), line, given->line, length);
+    line = lend(given->line, length);
+    take(vcube_board_told(RING, n, 4, line, length, 1), line, given->line, length);
+}
+
 static void alignment(void)
 {
     static struct given aligned, given;
@@ -336,10 +390,15 @@ static void alignment(void)
             memset(filled, 0, sizeof *filled);
             calls_on_plant(sizes[k], filled);
             other_calls(sizes[k], filled);
+            calls_on_line(sizes[k], filled);
             expect(begin == 0 || memcmp(&given, &aligned, sizeof given) == 0, "alignment: the same at each address");
         }
     expect(aligned.assignment[0] == 1 && aligned.assignment[1] == VCUBE_DUE, "macros: VCUBE_DUE");
     expect(aligned.saved[0] == VCUBE_TAG_OPENING && aligned.saved[3] == VCUBE_EDITION, "macros: VCUBE_EDITION");
+    expect(aligned.line[0] == VCUBE_STATUS_TOLD && aligned.line[1] == 1 && aligned.line[4] == 1, "alignment: a board's line");
+    expect(aligned.packed[0] == (1 << 2 | 1 << 5) && aligned.packed[1] == 0, "alignment: a packed row");
+    expect(aligned.numbers[22] == 5 && aligned.numbers[25] == VCUBE_NO_STATION, "alignment: a board's next test");
+    expect(aligned.numbers[23] == VCUBE_OUTCOME_NO_REPLY && aligned.numbers[24] == VCUBE_OUTCOME_EXCHANGED, "alignment: a board's turns");
     expect(strcmp((const char *)aligned.words[0], "this board is not live") == 0, "alignment: words");
     expect(strcmp((const char *)aligned.unread, "a tab where a space is expected") == 0, "alignment: words of an input");
 }
@@ -367,6 +426,18 @@ static void group_lengths(size_t n)
     expect(right, "macros: vcube_group_length");
 }
 
+static void lengths_of_board(size_t n)
+{
+    static uint8_t line[VCUBE_LINE_LENGTH(64) + 1], packed[VCUBE_PACKED_LENGTH(64) + 1];
+    const size_t right = VCUBE_LINE_LENGTH(n), row = VCUBE_PACKED_LENGTH(n);
+
+    for (size_t length = right - 1; length <= right + 1; length++)
+        expect(is_right(vcube_board_fresh(RING, n, n - 1, line, length), length, right, VCUBE_REFUSED_LINE_LENGTH), "macros: VCUBE_LINE_LENGTH");
+    for (size_t length = row - 1; length <= row + 1; length++)
+        expect(is_right(vcube_board_row(RING, n, n - 1, line, right, packed, length), length, row, VCUBE_REFUSED_LIST_LENGTH),
+               "macros: VCUBE_PACKED_LENGTH");
+}
+
 static void lengths(size_t n)
 {
     static uint8_t table[VCUBE_TABLE_LENGTH(64) + 1], list[VCUBE_ASSIGNMENT_LENGTH(64) + 1], saved[VCUBE_SAVED_LENGTH(64) + 1];
@@ -389,6 +460,7 @@ static void lengths(size_t n)
                start == (n - 1) * (n + VCUBE_HEAD) + VCUBE_HEAD && given == n,
            "macros: VCUBE_HEAD");
     group_lengths(n);
+    lengths_of_board(n);
 }
 
 static void macros(void)
@@ -402,7 +474,9 @@ static void macros(void)
     for (size_t n = 2; n <= 64; n++)
         lengths(n);
     expect(vcube_group_length(64, 0, 0) == 0 && vcube_group_length(64, 0, SIZE_MAX) == 0, "macros: vcube_group_length takes any level");
-    expect(VCUBE_TABLE_LENGTH(1 + 1) == 16 && VCUBE_SAVED_LENGTH(1 + 1) == 43 && VCUBE_ASSIGNMENT_LENGTH(1 + 1) == 2, "macros: of a sum");
+    expect(VCUBE_TABLE_LENGTH(1 + 1) == 16 && VCUBE_SAVED_LENGTH(1 + 1) == 43 && VCUBE_ASSIGNMENT_LENGTH(1 + 1) == 2 &&
+               VCUBE_LINE_LENGTH(1 + 1) == 8 && VCUBE_PACKED_LENGTH(1 + 1) == 1,
+           "macros: of a sum");
     expect(vcube_totals_of_list(results, VCUBE_MOST_RESULTS, &totals) == VCUBE_ACCEPTED &&
                vcube_totals_of_list(results, VCUBE_MOST_RESULTS + 1, &totals) == VCUBE_REFUSED_TOO_MANY_RESULTS,
            "macros: VCUBE_MOST_RESULTS");
@@ -417,16 +491,19 @@ static void macros(void)
 /* Numbers are judged in their whole width, of however many bytes a size_t is. */
 static void wide_numbers(void)
 {
-    uint8_t table[TABLE], list[VCUBE_ASSIGNMENT_LENGTH(N)];
+    uint8_t table[TABLE], list[VCUBE_ASSIGNMENT_LENGTH(N)], line[VCUBE_LINE_LENGTH(N)];
     size_t a, b;
 
     expect(vcube_fresh_table(CUBE, N, table, TABLE) == VCUBE_ACCEPTED, "a fresh table");
+    expect(vcube_board_fresh(CUBE, N, 0, line, sizeof line) == VCUBE_ACCEPTED, "a fresh line");
     for (size_t k = 0; k < sizeof wide / sizeof wide[0]; k++) {
         expect(vcube_fresh_table(wide[k], N, table, TABLE) == VCUBE_REFUSED_NO_SUCH_WIRING, "wide: a wiring");
         expect(vcube_fresh_table(CUBE, wide[k] + 3, table, TABLE) == VCUBE_REFUSED_SIZE_OUT_OF_RANGE, "wide: a size");
         expect(vcube_row(CUBE, N, table, TABLE, wide[k], &a, &b) == VCUBE_REFUSED_NO_SUCH_STATION && a == 0 && b == 0, "wide: a station");
         expect(vcube_group_list(N, 1, wide[k], list, 1) == VCUBE_REFUSED_NO_SUCH_LEVEL, "wide: a level");
         expect(vcube_grant(CUBE, N, table, TABLE, wide[k], &a) == VCUBE_REFUSED_LAST_GRANTED && a == 0, "wide: a last granted number");
+        expect(vcube_board_next(CUBE, N, wide[k], line, sizeof line, &a) == VCUBE_REFUSED_NO_SUCH_STATION && a == 0, "wide: a board");
+        expect(vcube_board_told(CUBE, N, 0, line, sizeof line, wide[k]) == VCUBE_REFUSED_NO_SUCH_STATION, "wide: the board that tells");
     }
 }
 

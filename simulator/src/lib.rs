@@ -4,7 +4,7 @@
 //! follow the rules. It was written from
 //! - the owner's documents and the papers that they name (docs/SOURCES.md): all but what follows;
 //! - include/vcube.h: totals, and the arguments and answers of each call;
-//! - docs/RULES.md and include/vcube.h: words, the reading of an input, slot and wait;
+//! - docs/RULES.md and include/vcube.h: words, the reading of an input, slot, wait, and boards on the cable;
 //! - what the library's authors said of the sheet program: arguments, messages and both layouts.
 //!
 //! Where the documents can be read in two ways, its authors were given the reading that docs/DECISIONS.md has (the
@@ -12,6 +12,9 @@
 
 #![forbid(unsafe_code)]
 
+mod board;
+mod board_calls;
+mod cable;
 mod converter;
 mod fields;
 mod figures;
@@ -39,6 +42,12 @@ mod wait;
 mod wiring;
 mod words;
 
+pub use board::Given;
+pub use board_calls::{
+    board_exchanged, board_fresh, board_next, board_not_replied, board_replied, board_round_closed,
+    board_row, board_told,
+};
+pub use cable::Cable;
 pub use converter::{convert, converted_length};
 pub use figures::{figures, figures_of_two, Figures};
 pub use fraction::Fraction;

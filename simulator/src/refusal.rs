@@ -28,6 +28,7 @@ pub enum Refusal {
     FieldOrder = 22,
     ReportTooShort = 23,
     NoSuchWiring = 24,
+    LineLength = 25,
 }
 
 impl Refusal {

@@ -39,7 +39,7 @@ struct Entry {
 type Effect = (Option<Station>, Outcome);
 
 /// Byte 1 of a line of the sheet when no station was tested.
-const NO_STATION: u8 = 255;
+pub const NO_STATION: u8 = 255;
 
 /// The plant and the tally during a run or a drive.
 pub struct Watch {

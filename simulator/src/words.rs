@@ -6,10 +6,10 @@ use crate::refusal::{number_of, Refusal};
 pub const WORDS_LENGTH: usize = 128;
 
 /// The words of the refusals, from 1 on.
-const OF_REFUSALS: [&str; 24] = [
+const OF_REFUSALS: [&str; 25] = [
     "a plant has 2 to 64 boards",
     "the table's length is not n(n + 6)",
-    "a line of the table breaks a line rule",
+    "a line breaks a line rule",
     "every live board has finished its pass, but the round is not closed",
     "the schedule has an odd number of bytes",
     "the run sheet is not twice as long as the schedule",
@@ -31,6 +31,7 @@ const OF_REFUSALS: [&str; 24] = [
     "a field is out of order or has an unknown tag",
     "the buffer for the report has fewer than 4n(n + 6) bytes",
     "the wiring is neither 1, the cube, nor 2, the ring",
+    "the length of the board's line is not n + 6",
 ];
 
 /// The words of the statuses, from 0 on.

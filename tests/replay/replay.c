@@ -420,7 +420,15 @@ static size_t items(size_t k)
     MAKE(refusal_words, N(0), B(1)) \
     MAKE(status_words, N(0), B(1)) \
     MAKE(outcome_words, N(0), B(1)) \
-    MAKE(read_input, CONST_B(0), B(1), B(2), S(3), S(4), S(5))
+    MAKE(read_input, CONST_B(0), B(1), B(2), S(3), S(4), S(5)) \
+    MAKE(board_fresh, N(0), N(1), N(2), B(3)) \
+    MAKE(board_next, N(0), N(1), N(2), CONST_B(3), S(4)) \
+    MAKE(board_row, N(0), N(1), N(2), CONST_B(3), B(4)) \
+    MAKE(board_replied, N(0), N(1), N(2), B(3), CONST_B(4), S(5)) \
+    MAKE(board_not_replied, N(0), N(1), N(2), B(3), S(4)) \
+    MAKE(board_told, N(0), N(1), N(2), B(3), N(4)) \
+    MAKE(board_exchanged, N(0), N(1), N(2), B(3), N(4), CONST_B(5)) \
+    MAKE(board_round_closed, N(0), N(1), N(2), B(3))
 
 #define DEFINE(name, ...) static uint8_t make_##name(void) { return vcube_##name(__VA_ARGS__); }
 CALLS(DEFINE)

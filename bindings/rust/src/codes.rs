@@ -1,7 +1,7 @@
 //! Refusals, kinds, statuses and outcomes: the numbers of docs/RULES.md as types.
 
-use std::error::Error;
-use std::fmt;
+use core::error::Error;
+use core::fmt;
 
 /// An enum whose cases have the numbers of the rules, and the words of the
 /// library.
@@ -36,7 +36,7 @@ macro_rules! numbered {
             ///
             /// ```
             #[doc = concat!("assert!(vcube::", stringify!($name), "::from_number(2).is_some());")]
-            #[doc = concat!("assert!(vcube::", stringify!($name), "::from_number(25).is_none());")]
+            #[doc = concat!("assert!(vcube::", stringify!($name), "::from_number(26).is_none());")]
             /// ```
             #[must_use]
             pub const fn from_number(number: u8) -> Option<$name> {
@@ -64,7 +64,7 @@ numbered! {
     Refusal {
         SizeOutOfRange = 1 => "a plant has 2 to 64 boards",
         TableLength = 2 => "the table's length is not n(n + 6)",
-        LineRule = 3 => "a line of the table breaks a line rule",
+        LineRule = 3 => "a line breaks a line rule",
         /// Some station is live.
         RoundNotClosed = 4 => "every live board has finished its pass, but the round is not closed",
         ScheduleLength = 5 => "the schedule has an odd number of bytes",
@@ -97,6 +97,7 @@ numbered! {
         ReportTooShort = 23 => "the buffer for the report has fewer than 4n(n + 6) bytes",
         /// Those of [`Wiring`] only: no call of this crate gives it.
         NoSuchWiring = 24 => "the wiring is neither 1, the cube, nor 2, the ring",
+        LineLength = 25 => "the length of the board's line is not n + 6",
     }
 }
 

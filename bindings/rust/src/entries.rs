@@ -1,6 +1,8 @@
 //! Entries of a schedule and lines of the sheet.
 
 use crate::{Kind, Outcome, Station, Status};
+#[cfg(feature = "alloc")]
+use alloc::vec::Vec;
 
 /// Stands in the sheet where no station was tested, and is the last granted
 /// number where none was granted yet.
@@ -39,6 +41,7 @@ impl Entry {
 /// let schedule = vcube::schedule(&[entry(Kind::Turn, 0), entry(Kind::Crash, 5)]);
 /// assert_eq!(schedule, [1, 0, 3, 5]);
 /// ```
+#[cfg(feature = "alloc")]
 #[must_use]
 pub fn schedule(entries: &[Entry]) -> Vec<u8> {
     entries.iter().flat_map(|entry| entry.bytes()).collect()

@@ -1,7 +1,7 @@
 //! The figures over a season's trials.
 
 use crate::{Refusal, accepted, raw};
-use std::fmt;
+use core::fmt;
 
 /// The most results that figures are taken over.
 pub const MOST_RESULTS: usize = 4096;

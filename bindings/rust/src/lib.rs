@@ -13,8 +13,8 @@
 //! # Wiring
 //!
 //! A plant is wired as the cube or as the ring ([`Wiring`]): that says whom a turn
-//! tests. Eight calls take it as their first argument; give the same one in all
-//! calls of a plant. Group lists, assignments, slots and saved plants are for the
+//! tests. Eight calls take it as their first argument, and a [`Board`] keeps it; give
+//! the same one in all calls of a plant. Group lists, assignments, slots and saved plants are for the
 //! cube.
 //!
 //! # Turn, pass, round
@@ -48,6 +48,16 @@
 //! What a valid line is, is in docs/RULES.md, "The line rules". Tables and files of
 //! versions before 0.11: docs/PANEL.md, "Old files".
 //!
+//! # A board's own half
+//!
+//! A [`Board`] keeps its own line and nothing else, and sends its row over the cable.
+//! Together the boards of a plant do what a run does on the table.
+//!
+//! # Without a heap
+//!
+//! This crate uses no standard library, only `alloc`, and that for [`schedule`] and
+//! [`read_input`] alone: they are left out with `default-features = false`.
+//!
 //! # Example
 //!
 //! Station 5 of eight crashes, and the others find out:
@@ -74,9 +84,16 @@
 //! # Ok::<(), vcube::Refusal>(())
 //! ```
 
+#![no_std]
 #![deny(unsafe_code)]
 
+#[cfg(feature = "alloc")]
+extern crate alloc;
+#[cfg(test)]
+extern crate std;
+
 mod assignment;
+mod board;
 mod codes;
 mod entries;
 mod figures;
@@ -100,8 +117,11 @@ pub use assignment::{
     AssignmentEntry, DUE, DueOrAhead, assignment, assignment_entries, assignment_length,
     due_distances,
 };
+pub use board::{Board, PackedRow, line_length, packed_length};
 pub use codes::{Kind, Outcome, Refusal, Status, Wiring};
-pub use entries::{Entry, SheetLine, schedule, sheet_lines};
+#[cfg(feature = "alloc")]
+pub use entries::schedule;
+pub use entries::{Entry, SheetLine, sheet_lines};
 pub use figures::{Figures, Fraction, MOST_RESULTS, Totals, figures, figures_of_two};
 pub use granter::{Driven, drive, grant};
 pub use lamp::{Doubt, doubt_lamp};
@@ -109,10 +129,9 @@ pub use lines::{HEAD, TOLD_BY_NONE, TOLD_NOT_RECORDED, ToldBy, rounds_ago, statu
 pub use mender::{Change, LineByte, changes, mend, report_length};
 pub use saved::{Loaded, convert, converted_length, load, save, saved_length, saved_size};
 pub use slot::{Slot, slot};
-pub use texts::{
-    Input, SCHEDULE_LENGTH, Unread, WORDS_LENGTH, Words, outcome_words, read_input, refusal_words,
-    status_words,
-};
+#[cfg(feature = "alloc")]
+pub use texts::{Input, Unread, read_input};
+pub use texts::{SCHEDULE_LENGTH, WORDS_LENGTH, Words, outcome_words, refusal_words, status_words};
 pub use wait::{Wait, wait};
 
 /// A station number. Any number can stand here; the library refuses n or more.
@@ -153,7 +172,7 @@ pub struct Answer {
     pub taken: usize,
 }
 
-/// The version of this crate as one number: 10200 is 1.2.0.
+/// The version of this crate as one number: 10300 is 1.3.0.
 pub const VERSION: u32 = 10_000 * number(env!("CARGO_PKG_VERSION_MAJOR"))
     + 100 * number(env!("CARGO_PKG_VERSION_MINOR"))
     + number(env!("CARGO_PKG_VERSION_PATCH"));

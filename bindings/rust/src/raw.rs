@@ -84,3 +84,14 @@ call!(status_words = vcube_status_words(status: usize, words: &mut [u8]) -> u8);
 call!(outcome_words = vcube_outcome_words(outcome: usize, words: &mut [u8]) -> u8);
 call!(read_input = vcube_read_input(input: &[u8], schedule: &mut [u8], words: &mut [u8],
                                     n: &mut usize, entries: &mut usize, line: &mut usize) -> u8);
+call!(board_fresh = vcube_board_fresh(wiring: usize, n: usize, board: usize, line: &mut [u8]) -> u8);
+call!(board_next = vcube_board_next(wiring: usize, n: usize, board: usize, line: &[u8], tested: &mut usize) -> u8);
+call!(board_row = vcube_board_row(wiring: usize, n: usize, board: usize, line: &[u8], packed: &mut [u8]) -> u8);
+call!(board_replied = vcube_board_replied(wiring: usize, n: usize, board: usize, line: &mut [u8], packed: &[u8],
+                                          outcome: &mut usize) -> u8);
+call!(board_not_replied = vcube_board_not_replied(wiring: usize, n: usize, board: usize, line: &mut [u8],
+                                                  outcome: &mut usize) -> u8);
+call!(board_told = vcube_board_told(wiring: usize, n: usize, board: usize, line: &mut [u8], by: usize) -> u8);
+call!(board_exchanged = vcube_board_exchanged(wiring: usize, n: usize, board: usize, line: &mut [u8], from: usize,
+                                              packed: &[u8]) -> u8);
+call!(board_round_closed = vcube_board_round_closed(wiring: usize, n: usize, board: usize, line: &mut [u8]) -> u8);

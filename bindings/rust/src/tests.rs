@@ -2,6 +2,8 @@
 //! src/bin/replay-typed.rs.
 
 use std::error::Error;
+use std::format;
+use std::prelude::v1::*;
 
 use crate::*;
 
@@ -30,7 +32,7 @@ fn cases_of_header(prefix: &str) -> Vec<String> {
 #[test]
 fn numbers_and_names_are_those_of_the_header() {
     let refusals = cases(Refusal::from_number, Refusal::number);
-    assert_eq!((refusals.len(), refusals[23].as_str()), (24, "NoSuchWiring 24"));
+    assert_eq!((refusals.len(), refusals[24].as_str()), (25, "LineLength 25"));
     assert_eq!(refusals, cases_of_header("VCUBE_REFUSED_"));
     assert_eq!(cases(Kind::from_number, Kind::number), cases_of_header("VCUBE_KIND_"));
     assert_eq!(cases(Status::from_number, Status::number), cases_of_header("VCUBE_STATUS_"));

@@ -1,8 +1,11 @@
 //! Words of the library, and the reading of an input.
 
 use crate::{accepted, raw};
-use std::error::Error;
-use std::fmt;
+#[cfg(feature = "alloc")]
+use alloc::boxed::Box;
+#[cfg(feature = "alloc")]
+use core::error::Error;
+use core::fmt;
 
 /// The length of a buffer for words.
 pub const WORDS_LENGTH: usize = 128;
@@ -30,7 +33,7 @@ impl Words {
     #[must_use]
     pub fn as_str(&self) -> &str {
         let end = self.0.iter().position(|byte| *byte == 0);
-        std::str::from_utf8(&self.0[..end.unwrap_or(WORDS_LENGTH)]).expect("words are ASCII")
+        str::from_utf8(&self.0[..end.unwrap_or(WORDS_LENGTH)]).expect("words are ASCII")
     }
 }
 
@@ -79,6 +82,7 @@ pub fn outcome_words(outcome: usize) -> Words {
 
 /// What was read of an input: the size, and how many entries stand at the front
 /// of the schedule, two bytes each.
+#[cfg(feature = "alloc")]
 #[derive(Clone, Copy, Debug, PartialEq, Eq, Hash)]
 pub struct Input {
     /// The size, which a run may still refuse; 0 where line 1 cannot be read.
@@ -88,6 +92,7 @@ pub struct Input {
 }
 
 /// The first line of an input that cannot be read.
+#[cfg(feature = "alloc")]
 #[derive(Clone, Debug, PartialEq, Eq, Hash)]
 pub struct Unread {
     /// Its number, from 1.
@@ -98,12 +103,14 @@ pub struct Unread {
     pub before: Input,
 }
 
+#[cfg(feature = "alloc")]
 impl fmt::Display for Unread {
     fn fmt(&self, f: &mut fmt::Formatter<'_>) -> fmt::Result {
         write!(f, "unread {}: {}", self.line, self.words)
     }
 }
 
+#[cfg(feature = "alloc")]
 impl Error for Unread {}
 
 /// Input: reads an input of the run program: lines that end with a line feed,
@@ -122,6 +129,7 @@ impl Error for Unread {}
 /// assert_eq!(unread.to_string(), "unread 3: a tab where a space is expected");
 /// assert_eq!(unread.before, Input { n: 8, entries: 1 });
 /// ```
+#[cfg(feature = "alloc")]
 pub fn read_input(input: &[u8], schedule: &mut [u8; SCHEDULE_LENGTH]) -> Result<Input, Unread> {
     let (mut n, mut entries, mut line) = (0, 0, 0);
     let words = Words::written(|words| {

@@ -5,40 +5,40 @@ use mathlib.Core.Logic.{◌≢◌}
 use mathlib.Core.Bool.{true, cond, ◌&&◌}
 use mathlib.Core.List.{List}
 use Prim.Native.Nat.{ℕ, ◌+◌, max, min, ◌≤◌, ◌<◌}
+use native.Mathlib.Nat.{mod-eq_of_lt}
 use native.Mathlib.Decide.{ℕ_discrete}
 use native.Mathlib.Omega.{arith}
-use borrow.Author.Tests.{leb-true, le-leb, ltb-true, lt-ltb, eqb-true, eqb-false, eq-eqb, not-true}
-use lib.Dec.{eqb, ltb}
+use borrow.Author.Tests.{leb-true, le-leb, ltb-true, lt-ltb, eqb-true, eqb-false, eq-eqb, not-true, ne_eqb}
+use lib.Dec.{eqb, ltb, leb}
 use lib.ListN.{length, get_or, set, length-set}
 use lib.Seq.{get_or-set_same, get_or-set_other}
 use Rattle.std.specs.Prelude.{Option, Some, None, Ok, Err}
 use Rattle.lists.proofs.BoolLaws.{by_bool}
-use Rattle.lists.proofs.SearchLaws.{both, every-at, every-all}
+use Rattle.lists.proofs.SearchLaws.{both, every-at, every-all, list_of-length, list_of-at}
 use Rattle.lists.proofs.RefusalLaws.{ensure_ok, and_ok}
 use Rattle.table.specs.Sizes.{is_size}
 use Rattle.table.specs.Wiring.{wiring_check, end_distance}
-use Rattle.table.specs.Table.{head, stride, status_column, next_column, finished_column, tests_column, told_by_column, rounds_ago_column, rounds_ago_top, status_told, status_alone}
+use Rattle.table.specs.Fresh.{fresh_byte}
+use Rattle.table.specs.Table.{head, stride, status_column, next_column, finished_column, tests_column, told_by_column, told_by_none, rounds_ago_column, rounds_ago_top, status_told, status_alone}
 use Rattle.table.specs.Rules.{exit_rule}
-use Rattle.lists.specs.Search.{every}
+use Rattle.lists.specs.Search.{list_of}
 use Rattle.lists.specs.Bytes.{joined_byte}
 use Rattle.lists.specs.Refusal.{Check, unless_refused}
-use Rattle.station.specs.Wired.{wired_station}
-use Rattle.station.specs.Rows.{union}
+use Rattle.station.specs.Wired.{wired_station, next_after}
+use Rattle.station.specs.Rows.{union, mark, suspects_all}
 use Rattle.station.proofs.UnionLaws.{union-length, union-at, union-own, union-others}
 use Rattle.station.proofs.WiredLaws.{station-apart}
-use Rattle.plant.specs.Turn.{next_after, outcome_told, outcome_tested_told, outcome_exchanged}
-use Rattle.plant.proofs.StepLines.{next_after-between}
+use Rattle.station.specs.Outcome.{outcome_told, outcome_tested_told, outcome_exchanged}
 use Rattle.table.proofs.WiringLaws.{end-pos}
-use Rattle.table.proofs.CellLaws.{Pass, live_exit, none-exit, told-exit}
+use Rattle.table.proofs.CellLaws.{Pass, pass-facts, pass-holds, live_exit, none-exit, told-exit}
 use Rattle.table.specs.Line.{row_of, with_row}
-use Rattle.board.specs.Board.{next_of, tests, pass_finished, counted, left_told, joined, suspecting, self_or_suspected, alone, after_alone, outcome_of, row_given, after_outcome, tested_at, turn_of, round_closed}
-use Rattle.board.specs.Packed.{unpack}
+use Rattle.board.specs.Board.{suspicion_of, next_of, tests, tested, pass_finished, counted, left_told, joined, suspecting, alone, after_alone, outcome_of, row_given, after_outcome, tested_at, turn_of, round_closed}
+use Rattle.board.specs.Packed.{heard}
 use Rattle.table.proofs.LineLaws.{row_of-length, row_of-at, with_row-length, with_row-head, with_row-in}
-use Rattle.board.proofs.NextLaws.{next-low, next-station}
+use Rattle.board.proofs.NextLaws.{next-low, next-station, next_after-between}
 use Rattle.board.proofs.PackedLaws.{any-bytes}
-use Rattle.board.proofs.CallLaws.{pass-facts, pass-holds}
-use Rattle.board.specs.Keeps.{CallsKeepTheRules}
-use Rattle.board.specs.Calls.{suspicion_rule, row_rule, line_rules, line_check, turn_check, replied_check, sent_check, exchanged_check}
+use Rattle.board.specs.Keeps.{CallsKeepTheRules, FreshLineIsOne}
+use Rattle.board.specs.Calls.{line_rules, place_check, line_check, live_check, turn_check, replied_check, sent_check, exchanged_check, fresh_after, row_in}
 
 -- a line that is let through
 pub record Good (w n i : ℕ) (l : List ℕ) : Type 0 where
@@ -53,13 +53,13 @@ pub record Good (w n i : ℕ) (l : List ℕ) : Type 0 where
   pub range : (k : ℕ) → k < n → get_or l (head + k) 0 ≤ 1
 
 pub good : (w n i : ℕ) (l : List ℕ) → line_check w n i l ≡ Ok tt → Good w n i l
-unfolding line_check line_rules row_rule
+unfolding line_check place_check line_rules
 good w n i l e =
-    let p = and_ok _ _ tt e in
+    let z = and_ok _ _ tt e in
+    let p = and_ok _ _ tt z.0 in
     let q = and_ok _ _ tt p.1 in
     let r = and_ok _ _ tt q.1 in
-    let s = and_ok _ _ tt r.1 in
-    let a = both _ _ (ensure_ok _ _ _ s.1) in
+    let a = both _ _ (ensure_ok _ _ _ z.1) in
     let b = both _ _ a.0 in
     let c = both _ _ b.0 in
     let d = both _ _ a.1 in
@@ -67,16 +67,16 @@ good w n i l e =
       wired = p.0;
       size = ensure_ok _ _ _ q.0;
       below = ltb-true i n (ensure_ok _ _ _ r.0);
-      long = eqb-true (length l) (stride n) (ensure_ok _ _ _ s.0);
+      long = eqb-true (length l) (stride n) (ensure_ok _ _ _ r.1);
       status = leb-true (get_or l status_column 0) 3 c.0;
       pass = pass-facts _ _ _ _ c.1;
       exits = b.1;
       own = eqb-true (get_or l (head + i) 0) 0 d.0;
-      range = λ k h. leb-true (get_or l (head + k) 0) 1 (every-at (suspicion_rule l) n k d.1 h);
+      range = λ k h. leb-true (get_or l (head + k) 0) 1 (every-at (λ k. leb (suspicion_of l k) 1) n k d.1 h);
     }
 
 pub checked : (w n i : ℕ) (l : List ℕ) → Good w n i l → line_check w n i l ≡ Ok tt
-unfolding line_check line_rules row_rule
+unfolding line_check place_check line_rules
 checked w n i l g =
     rw (
       g.wired,
@@ -87,10 +87,10 @@ checked w n i l g =
       pass-holds (end_distance w n) (get_or l next_column 0) (get_or l finished_column 0) (get_or l tests_column 0) g.pass,
       g.exits,
       eq-eqb (get_or l (head + i) 0) 0 g.own,
-      every-all (suspicion_rule l) n (λ k h. le-leb (get_or l (head + k) 0) 1 (g.range k h)),
-    )
+      every-all (λ k. leb (suspicion_of l k) 1) n (λ k h. le-leb (get_or l (head + k) 0) 1 (g.range k h)),
+    ) refl
 
--- a row that came unpacked
+-- a row as it is heard
 abbrev pub GoodRow : ℕ → List ℕ → Type 0
 GoodRow n r = (length r ≡ n) × ((k : ℕ) → k < n → get_or r k 0 ≤ 1)
 
@@ -206,7 +206,7 @@ module _ (w n i : ℕ) (l : List ℕ) (g : Good w n i l) where
   pub alone-good : Good w n i (after_alone n i l)
   unfolding after_alone alone
   alone-good =
-      by_bool (eqb (get_or l status_column 0) 0 && every (self_or_suspected i l) n)
+      by_bool (eqb (get_or l status_column 0) 0 && suspects_all (suspicion_of l) i n)
       (λ a.
       let live : get_or l status_column 0 ≡ 0 = eqb-true (get_or l status_column 0) 0 (both _ _ a).0 in
       let none = (live_exit n i (get_or l told_by_column 0) (get_or l rounds_ago_column 0) (rw live at g.exits)).0 in
@@ -234,16 +234,22 @@ module _ (w n i : ℕ) (l : List ℕ) (g : Good w n i l) where
         range = range;
       }
 
-  pub suspect-good : (j : ℕ) → j < n → j ≢ i → Good w n i (suspecting l j)
-  unfolding suspecting
-  suspect-good j hj apart =
-      let other : (k : ℕ) → k ≢ head + j → get_or (set l (head + j) 1) k 0 ≡ get_or l k 0 = λ k p. get_or-set_other l (head + j) k 1 0 p in
-      row-kept (set l (head + j) 1) (length-set l (head + j) 1) (λ k h. other k (λ e. omega arith)) (other (head + i) (λ e. apart (omega arith)) ∙ g.own)
-      (λ k h. pick k h (ℕ_discrete k j))
+  pub suspect-good : (j : ℕ) → j ≢ i → Good w n i (suspecting n l j)
+  unfolding suspecting mark
+  suspect-good j apart =
+      row-kept (with_row n l u) (with_row-length n l u g.long hu ∙ sym g.long) (λ k h. with_row-head n l u g.long hu k h)
+      (with_row-in n l u g.long hu i g.below ∙ (get_or-set_other (row_of n l) j i 1 0 (λ e. apart (sym e)) ∙ (row_of-at n l i g.below ∙ g.own)))
+      (λ k h. let e = with_row-in n l u g.long hu k h in omega (arith, e, pick k h (ℕ_discrete k j)))
     where
-      pick : (k : ℕ) → k < n → Dec (k ≡ j) → get_or (set l (head + j) 1) (head + k) 0 ≤ 1
-      pick k h (yes e) = let x = get_or-set_same l (head + j) 1 0 (omega (arith, g.long)) in rw e (omega (arith, x))
-      pick k h (no d) = let x = get_or-set_other l (head + j) (head + k) 1 0 (λ e. d (omega arith)) in omega (arith, x, g.range k h)
+      u : List ℕ
+      u = set (row_of n l) j 1
+
+      hu : length u ≡ n
+      hu = length-set (row_of n l) j 1 ∙ row_of-length n l g.long
+
+      pick : (k : ℕ) → k < n → Dec (k ≡ j) → get_or u k 0 ≤ 1
+      pick k h (yes e) = let x = get_or-set_same (row_of n l) j 1 0 (omega (arith, row_of-length n l g.long)) in rw e (omega (arith, x))
+      pick k h (no d) = let x = get_or-set_other (row_of n l) j k 1 0 d in omega (arith, x, row_of-at n l k h, g.range k h)
 
   pub join-good : (r : List ℕ) → GoodRow n r → Good w n i (joined n i l r)
   unfolding joined joined_byte
@@ -376,7 +382,7 @@ turn-good w n i l reply g going rows =
         (λ b.
         by_bool (eqb o outcome_exchanged)
         (λ d. rw (a, b, d) (join-good w n i c gc (row_given reply) (given-good n i j l reply rows (eqb-true o outcome_exchanged d))))
-        (λ d. rw (a, b, d) (suspect-good w n i c gc j hj (λ e. apart (sym e)))))))
+        (λ d. rw (a, b, d) (suspect-good w n i c gc j (λ e. apart (sym e)))))))
 
 -- a call leaves what was there or what it makes
 unless-good : (w n i : ℕ) (c : Check) (l l' : List ℕ) → Good w n i l → (c ≡ Ok tt → Good w n i l') → Good w n i (unless_refused c l l')
@@ -385,10 +391,7 @@ unless-good w n i (Err r) l l' g f = g
 
 turn-going : (w n i : ℕ) (l : List ℕ) → turn_check w n i l ≡ Ok tt → get_or l finished_column 0 ≡ 1 → ⊥
 unfolding turn_check
-turn-going w n i l e =
-    let p = and_ok _ _ tt e in
-    let q = and_ok _ _ tt p.1 in
-    eqb-false (get_or l finished_column 0) 1 (not-true _ (ensure_ok _ _ _ q.1))
+turn-going w n i l e = eqb-false (get_or l finished_column 0) 1 (not-true _ (ensure_ok _ _ _ (and_ok _ _ tt e).1))
 
 replied-turn : (w n i : ℕ) (l : List ℕ) (len : ℕ) → replied_check w n i l len ≡ Ok tt → turn_check w n i l ≡ Ok tt
 unfolding replied_check
@@ -399,8 +402,10 @@ unfolding sent_check
 sent-facts w n i l b e =
     let p = and_ok _ _ tt e in
     let q = and_ok _ _ tt p.1 in
-    let r = and_ok _ _ tt q.1 in
-    (ltb-true b n (ensure_ok _ _ _ r.0), eqb-false b i (not-true _ (ensure_ok _ _ _ r.1)))
+    (ltb-true b n (ensure_ok _ _ _ q.0), eqb-false b i (not-true _ (ensure_ok _ _ _ q.1)))
+
+heard-good : (n from : ℕ) (p : List ℕ) → GoodRow n (heard n from p)
+heard-good n from p = let a = any-bytes n from p in (a.0, a.2)
 
 -- the calls keep the rules, an end in itself
 pub calls-keep : CallsKeepTheRules
@@ -408,22 +413,78 @@ calls-keep w n i l z =
     let g = good w n i l z in
     record {
       replied = λ p. checked w n i _
-          (unless-good w n i (replied_check w n i l (length p)) l (turn_of w n i l (Some (unpack n p))) g
-          (λ e. turn-good w n i l (Some (unpack n p)) g (turn-going w n i l (replied-turn w n i l (length p) e)) (λ r q. unpacked-good n p r q)));
+          (unless-good w n i (replied_check w n i l (length p)) l (turn_of w n i l (row_in w n i l p)) g
+          (λ e. turn-good w n i l (row_in w n i l p) g (turn-going w n i l (replied-turn w n i l (length p) e))
+          (λ r q. same-good n (tested w n i l) p r q)));
       silent = checked w n i _
           (unless-good w n i (turn_check w n i l) l (turn_of w n i l None) g
           (λ e. turn-good w n i l None g (turn-going w n i l e) (λ r q. absurd (none-some r q))));
       told = λ b. checked w n i _
           (unless-good w n i (sent_check w n i l b) l (left_told l b) g
           (λ e. let f = sent-facts w n i l b e in told-good w n i l g b f.0 f.1));
-      exchanged = λ p. checked w n i _
-          (unless-good w n i (exchanged_check w n i l (length p)) l (joined n i l (unpack n p)) g
-          (λ e. join-good w n i l g (unpack n p) (any-bytes n p)));
+      exchanged = λ b p. checked w n i _
+          (unless-good w n i (exchanged_check w n i l b (length p)) l (joined n i l (heard n b p)) g
+          (λ e. join-good w n i l g (heard n b p) (heard-good n b p)));
       closed = checked w n i _ (unless-good w n i (line_check w n i l) l (round_closed l) g (λ e. close-good w n i l g));
     }
   where
-    unpacked-good : (n : ℕ) (p r : List ℕ) → ◌≡◌ {A = Option (List ℕ)} (Some (unpack n p)) (Some r) → GoodRow n r
-    unpacked-good n p r q = let e : unpack n p ≡ r = cc in rw (← e) (any-bytes n p)
+    same-good : (n from : ℕ) (p r : List ℕ) → ◌≡◌ {A = Option (List ℕ)} (Some (heard n from p)) (Some r) → GoodRow n r
+    same-good n from p r q = let e : heard n from p ≡ r = cc in rw (← e) (heard-good n from p)
 
     none-some : (r : List ℕ) → ◌≡◌ {A = Option (List ℕ)} None (Some r) → ⊥
     none-some r q = cc
+
+-- a fresh line
+abbrev fresh_line : ℕ → List ℕ
+fresh_line n = list_of (fresh_byte n) (stride n)
+
+fresh-at : (n k v : ℕ) → k < stride n → cond (eqb k next_column) 1 (cond (eqb k told_by_column) told_by_none 0) ≡ v → get_or (fresh_line n) k 0 ≡ v
+unfolding fresh_byte
+fresh-at n k v h e = list_of-at (fresh_byte n) (stride n) k h ∙ rw (mod-eq_of_lt h) e
+
+fresh-row : (n k : ℕ) → k < n → get_or (fresh_line n) (head + k) 0 ≡ 0
+fresh-row n k h =
+    fresh-at n (head + k) 0 (omega arith)
+    (rw (ne_eqb (head + k) next_column (λ e. omega arith), ne_eqb (head + k) told_by_column (λ e. omega arith)) refl)
+
+fresh-good : (w n i len : ℕ) → place_check w n i len ≡ Ok tt → Good w n i (fresh_line n)
+unfolding place_check exit_rule
+fresh-good w n i len e =
+    let p = and_ok _ _ tt e in
+    let q = and_ok _ _ tt p.1 in
+    let r = and_ok _ _ tt q.1 in
+    let below : i < n = ltb-true i n (ensure_ok _ _ _ r.0) in
+    record {
+      wired = p.0;
+      size = ensure_ok _ _ _ q.0;
+      below = below;
+      long = list_of-length (fresh_byte n) (stride n);
+      status = omega (arith, status);
+      pass =
+          rw (next, done, tests)
+          (record { next_low = omega arith; next_high = end-pos w n i below; finished_range = omega arith; tests_bound = omega arith; finished_next = λ p. absurd (omega arith) });
+      exits = rw (status, by, ago) refl;
+      own = fresh-row n i below;
+      range = λ k h. omega (arith, fresh-row n k h);
+    }
+  where
+    status : get_or (fresh_line n) status_column 0 ≡ 0
+    status = fresh-at n status_column 0 (omega arith) refl
+
+    next : get_or (fresh_line n) next_column 0 ≡ 1
+    next = fresh-at n next_column 1 (omega arith) refl
+
+    done : get_or (fresh_line n) finished_column 0 ≡ 0
+    done = fresh-at n finished_column 0 (omega arith) refl
+
+    tests : get_or (fresh_line n) tests_column 0 ≡ 0
+    tests = fresh-at n tests_column 0 (omega arith) refl
+
+    by : get_or (fresh_line n) told_by_column 0 ≡ told_by_none
+    by = fresh-at n told_by_column told_by_none (omega arith) refl
+
+    ago : get_or (fresh_line n) rounds_ago_column 0 ≡ 0
+    ago = fresh-at n rounds_ago_column 0 (omega arith) refl
+
+pub fresh-is-one : FreshLineIsOne
+fresh-is-one w n i l e = rw e (checked w n i (fresh_line n) (fresh-good w n i (length l) e))

@@ -1,39 +1,27 @@
 -- The next test by a line, on either wiring.
 -- Assumes nothing.
 use mathlib.Core.Path.{◌≡◌}
-use mathlib.Core.Logic.{by_cases}
-use mathlib.Core.Bool.{true, false}
+use mathlib.Core.Bool.{◌&&◌}
 use mathlib.Core.List.{List}
-use Prim.Native.Nat.{ℕ, ◌-◌, ◌≤◌, ◌<◌}
-use native.Mathlib.Decide.{dec_lt}
+use Prim.Native.Nat.{ℕ, ◌+◌, ◌-◌, ◌≤◌, ◌<◌}
 use native.Mathlib.Omega.{arith}
+use lib.Dec.{eqb}
 use lib.ListN.{length, get_or}
-use Rattle.lists.specs.Search.{least}
-use Rattle.lists.proofs.BoolLaws.{least-same}
-use Rattle.lists.proofs.SearchLaws.{least-between, least-passes, least-is}
+use Rattle.lists.proofs.BoolLaws.{by_bool}
+use Rattle.lists.proofs.SearchLaws.{both, least-between, least-passes}
 use Rattle.table.specs.Table.{stride, next_column}
 use Rattle.table.specs.Wiring.{is_ring, end_distance}
-use Rattle.station.specs.Tests.{due}
-use Rattle.station.specs.Wired.{wired_station, wired_due}
-use Rattle.station.proofs.WiredLaws.{cube_due, ring_due, station-present}
 use Rattle.table.specs.Line.{row_of}
-use Rattle.board.specs.Board.{next_of}
 use Rattle.table.proofs.LineLaws.{row_of-length}
+use Rattle.table.proofs.WiringLaws.{end_ring}
+use Rattle.station.specs.Outcome.{outcome_exchanged}
+use Rattle.station.specs.Wired.{wired_station, wired_due, next_after}
+use Rattle.station.proofs.WiredLaws.{station-present}
+use Rattle.board.specs.Board.{next_of}
 
 module _ (w n i : ℕ) (l : List ℕ) where
   abbrev next : ℕ
   next = get_or l next_column 0
-
-  pub cube-next : is_ring w ≡ false → next_of w n i l ≡ least (due (row_of n l) i) (end_distance w n - next) next
-  unfolding next_of
-  cube-next c = least-same _ _ _ _ (λ y a b. cube_due w (row_of n l) i y c)
-
-  pub ring-next : is_ring w ≡ true → next_of w n i l ≡ next
-  unfolding next_of
-  ring-next r =
-      by_cases (dec_lt next (end_distance w n))
-      (λ l'. least-is _ _ _ _ (omega arith) (omega arith) (ring_due w (row_of n l) i next r) (λ y a b. absurd (omega arith)))
-      (λ l'. omega (arith, least-between (wired_due w (row_of n l) i) (end_distance w n - next) next))
 
   pub next-low : next ≤ next_of w n i l
   unfolding next_of
@@ -45,3 +33,9 @@ module _ (w n i : ℕ) (l : List ℕ) where
   next-station long h below =
       station-present w (row_of n l) n i (next_of w n i l) (row_of-length n l long) h below
       (least-passes (wired_due w (row_of n l) i) (end_distance w n - next) next (omega (arith, next-low)))
+
+-- after a test the next distance is greater than its distance, and the end distance at most
+pub next_after-between : (w n m o : ℕ) → m < end_distance w n → (m < next_after w n m o) × (next_after w n m o ≤ end_distance w n)
+unfolding next_after
+next_after-between w n m o h =
+    by_bool (is_ring w && eqb o outcome_exchanged) (λ e. rw e (omega (arith, end_ring w n (both _ _ e).0))) (λ e. rw e (omega arith))

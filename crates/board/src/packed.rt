@@ -1,10 +1,12 @@
 // A row on the cable: a bit for each station, eight to a byte, the lowest first.
 ghost use Rattle.std.specs.Prelude.{◌≡◌, ◌≤◌, ◌<◌, length};
-ghost use Rattle.board.specs.Packed.{suspicion, packed_length, packed_byte, pack, unpacked_byte, unpack};
+ghost use Rattle.board.specs.Packed.{suspicion, packed_length, packed_byte, pack, heard_byte, heard};
+
+use table::Station;
 
 // Packs a row of at most 64 stations.
 #[tactic(auto, using(lists::proofs::Loops::loops), unfolding(crate::specs::Packed::pack))]
-pub fn pack(row: &[u8], packed: &mut [u8])
+pub(crate) fn pack(row: &[u8], packed: &mut [u8])
     requires size { length row.now ≤ 64 }
     requires room { length packed.old ≡ packed_length (length row.now) }
     ensures { packed.new ≡ pack (length row.now) row.now }
@@ -14,7 +16,7 @@ pub fn pack(row: &[u8], packed: &mut [u8])
     }
 }
 
-// Byte b of it.
+// Byte b of it, from its highest bit down.
 fn packed_byte(row: &[u8], b: usize) -> u8
     requires { b < 8 }
     ensures { result ≡ packed_byte row.now b }
@@ -28,38 +30,33 @@ fn packed_byte(row: &[u8], b: usize) -> u8
     byte
 }
 
-// 1 if the row suspects station k.
+// 1 if the row suspects station k; past its end 0.
 fn suspicion(row: &[u8], k: usize) -> u8
     ensures { result ≡ suspicion row.now k }
 {
     u8::from(row.get(k).copied().unwrap_or(0) == 1)
 }
 
-// Unpacks a row of at most 64 stations.
-#[tactic(auto, using(lists::proofs::Loops::loops), unfolding(crate::specs::Packed::unpack))]
-pub fn unpack(packed: &[u8], row: &mut [u8])
-    requires size { length row.old ≤ 64 }
-    ensures { row.new ≡ unpack (length row.old) packed.now }
-{
-    for k in 0..row.len() {
-        row[k] = unpacked_byte(packed, k);
-    }
-}
-
-// A packed row unpacked as one of 64 stations, of which those that the plant has not are not suspected.
-pub fn unpacked(packed: &[u8]) -> [u8; 64]
-    ensures { result ≡ unpack 64 packed.now }
+// The row that a packed one from station `from` stands for, as one of 64 stations: the row of a smaller plant is its front.
+#[tactic(auto, using(lists::proofs::Loops::loops), unfolding(crate::specs::Packed::heard))]
+pub(crate) fn heard(from: Station, packed: &[u8]) -> [u8; 64]
+    ensures { result ≡ heard 64 from.0 packed.now }
 {
     let mut row = [0u8; 64];
-    unpack(packed, &mut row);
+    for k in 0..64usize {
+        row[k] = heard_byte(from, packed, k);
+    }
     row
 }
 
-// Byte k of it.
-#[tactic(auto, using(std::proofs::lemmas::Nat::Bits::shr_and_one), unfolding(crate::specs::Packed::unpacked_byte))]
-fn unpacked_byte(packed: &[u8], k: usize) -> u8
-    ensures { result ≡ unpacked_byte packed.now k }
+// Byte k of it; past the end of the packed row 0.
+#[tactic(auto, using(std::proofs::lemmas::Nat::Bits::shr_and_one), unfolding(crate::specs::Packed::heard_byte))]
+fn heard_byte(from: Station, packed: &[u8], k: usize) -> u8
+    ensures { result ≡ heard_byte from.0 packed.now k }
 {
+    if k == from.0 as usize {
+        return 0;
+    }
     let byte = packed.get(k / 8).copied().unwrap_or(0);
     let digit = k % 8;
     (byte >> digit) & 1

@@ -62,7 +62,8 @@ steps-behind n zero t k long hk hm = refl
 steps-behind n (suc m) t k long hk hm =
     reset-away n m (after_steps (reset_line n) m t) k (steps-length n m t ∙ long) hk (omega arith) ∙ steps-behind n m t k long hk (omega arith)
 
-steps-here : (n m : ℕ) (t : List ℕ) (k : ℕ) → length t ≡ table_length n → m ≤ n → k < m → line n (after_steps (reset_line n) m t) k ≡ round_closed (line n t k)
+steps-here : (n m : ℕ) (t : List ℕ) (k : ℕ) → length t ≡ table_length n → m ≤ n → k < m
+    → line n (after_steps (reset_line n) m t) k ≡ round_closed (line n t k)
 unfolding after_steps
 steps-here n zero t k long hm h = absurd (omega arith)
 steps-here n (suc m) t k long hm h = pick (steps-here n m t k long (omega arith)) (eq-or-lt_of_le (le_of_suc-le-suc h))

@@ -1,26 +1,22 @@
--- The turn as one equation, by lines; and the row that is sent.
+-- The turn as one equation, by lines.
 -- Assumes nothing.
 use mathlib.Core.Path.{◌≡◌, refl, sym, ap, ◌∙◌}
 use mathlib.Core.Logic.{◌≢◌}
 use mathlib.Core.List.{List}
-use Prim.Native.Nat.{ℕ, max, ◌≤◌, ◌<◌}
+use Prim.Native.Nat.{ℕ, ◌≤◌, ◌<◌}
 use native.Mathlib.Decide.{ℕ_discrete}
 use native.Mathlib.Omega.{arith}
-use lib.ListN.{length, get_or}
-use Rattle.lists.specs.Bytes.{joined_byte}
+use lib.ListN.{length}
 use Rattle.lists.proofs.BoolLaws.{by_bool}
-use Rattle.lists.proofs.SearchLaws.{list_of-same}
 use Rattle.table.specs.Table.{stride, table_length}
 use Rattle.table.proofs.Accepting.{accepted}
 use Rattle.table.proofs.SizeLaws.{size_top}
 use Rattle.table.proofs.CellLaws.{accepted-line}
-use Rattle.station.specs.Rows.{union_byte, union}
-use Rattle.station.proofs.UnionLaws.{union-at, union-own, union-others}
 use Rattle.plant.specs.Turn.{makes_test, turn}
-use Rattle.table.specs.Line.{line, row_of, with_row, set_line}
-use Rattle.board.specs.Board.{tested, turn_of, sent, received, joined}
-use Rattle.cable.specs.Claims.{reply_to, SameTurn, turn_by_lines, TurnIsByLines, EitherRowServes}
-use Rattle.table.proofs.LineLaws.{line-length, line-set_line, line-set_line-other, set_line-length, by_lines, row_of-length}
+use Rattle.table.specs.Line.{line, set_line}
+use Rattle.board.specs.Board.{tested, turn_of, sent, received}
+use Rattle.cable.specs.Claims.{reply_to, SameTurn, turn_by_lines, TurnIsByLines}
+use Rattle.table.proofs.LineLaws.{line-length, line-set_line, line-set_line-other, set_line-length, by_lines}
 use Rattle.cable.proofs.TurnByLines.{same-turn, tests-line, tested-below, tested-apart, none-tested, turn-length}
 
 module _ (w n : ℕ) (t : List ℕ) (kind i : ℕ) (long : length t ≡ table_length n) (h : i < n) (same : SameTurn w n t kind i)
@@ -49,7 +45,8 @@ module _ (w n : ℕ) (t : List ℕ) (kind i : ℕ) (long : length t ≡ table_le
 
     two-lines : turn w n t kind i ≡ set_line n (set_line n t i mine) j its
     two-lines =
-        by_lines n (turn w n t kind i) (set_line n (set_line n t i mine) j its) (full ∙ long) (set_line-length n _ j its one-long hj its-long ∙ one-long)
+        by_lines n (turn w n t kind i) (set_line n (set_line n t i mine) j its) (full ∙ long)
+        (set_line-length n _ j its one-long hj its-long ∙ one-long)
         (λ k hk. pick k hk (ℕ_discrete k j) (ℕ_discrete k i))
       where
         pick : (k : ℕ) → k < n → Dec (k ≡ j) → Dec (k ≡ i) → line n (turn w n t kind i) k ≡ line n (set_line n (set_line n t i mine) j its) k
@@ -87,23 +84,3 @@ turn-is-by-lines w n t kind i z h =
     (λ m.
     rw (tests-line n t i a.long h w, m)
     (one-line w n t kind i a.long h same full (omega (arith, none-tested w n t kind i a.long h m, same.tested_station, size_top n a.size))))
-
--- a row joined with one that was joined with it
-twice : (r mine : List ℕ) (n i j : ℕ) → length r ≡ n → length mine ≡ n → union r (union mine r i) j ≡ union r mine j
-unfolding union joined_byte
-twice r mine n i j hr hm = list_of-same _ _ (length r) (λ k h. pick k (omega arith) (ℕ_discrete k j) (ℕ_discrete k i))
-  where
-    pick : (k : ℕ) → k < length mine → Dec (k ≡ j) → Dec (k ≡ i) → union_byte r (union mine r i) j k ≡ union_byte r mine j k
-    pick k h (yes e) d = rw e (union-own r (union mine r i) j ∙ sym (union-own r mine j))
-    pick k h (no nj) (yes e) =
-        let f : get_or (union mine r i) k 0 ≡ get_or mine k 0 = union-at mine r i k h ∙ rw e (union-own mine r i) in
-        union-others r (union mine r i) j k nj ∙ (ap (λ (x : ℕ). max (get_or r k 0) x) f ∙ sym (union-others r mine j k nj))
-    pick k h (no nj) (no ni) =
-        let f : get_or (union mine r i) k 0 ≡ max (get_or mine k 0) (get_or r k 0) = union-at mine r i k h ∙ union-others mine r i k ni in
-        let g : max (get_or r k 0) (get_or (union mine r i) k 0) ≡ max (get_or r k 0) (get_or mine k 0) = omega (arith, f) in
-        union-others r (union mine r i) j k nj ∙ (g ∙ sym (union-others r mine j k nj))
-
--- the row that is sent, an end in itself
-pub either-row-serves : EitherRowServes
-unfolding received joined
-either-row-serves n i j l mine long hm = ap (with_row n l) (twice (row_of n l) mine n i j (row_of-length n l long) hm)

@@ -8,7 +8,7 @@ use Prim.Native.Nat.{ℕ, ◌+◌, ◌≤◌, ◌<◌}
 use native.Mathlib.Omega.{arith}
 use borrow.Author.Tests.{eqb-true}
 use lib.Dec.{eqb}
-use lib.ListN.{length, set}
+use lib.ListN.{length, set, length-set}
 use Rattle.std.specs.Prelude.{Option}
 use Rattle.lists.proofs.BoolLaws.{by_bool, every-same}
 use Rattle.table.specs.Wiring.{end_distance}
@@ -16,14 +16,14 @@ use Rattle.table.specs.Table.{head, stride, table_length, cell, set_cell, status
 use Rattle.table.proofs.Accepting.{accepted}
 use Rattle.table.proofs.SizeLaws.{size_top}
 use Rattle.table.proofs.CellLaws.{row_same, row-length, row_at, set_cell-length, set_row-length, accepted-line}
-use Rattle.station.specs.Wired.{wired_station}
-use Rattle.station.specs.Rows.{union}
+use Rattle.station.specs.Wired.{wired_station, next_after}
+use Rattle.station.specs.Rows.{union, mark}
+use Rattle.station.specs.Outcome.{outcome_exchanged, outcome_told, outcome_tested_told}
 use Rattle.station.proofs.UnionLaws.{union-length}
 use Rattle.station.proofs.WiredLaws.{station-apart}
-use Rattle.plant.specs.Turn.{outcome_exchanged, outcome_told, outcome_tested_told, leave_told, next_test, makes_test, finish_pass, next_after, count_test, replies, is_told, exchange_rows, suspect, reply_outcome, test_outcome, after_test, self_or_suspected, is_alone, outcome_at, testing, turn, turn_tested, turn_outcome}
+use Rattle.plant.specs.Turn.{leave_told, next_test, makes_test, finish_pass, count_test, replies, is_told, exchange_rows, suspect, reply_outcome, test_outcome, after_test, self_or_suspected, is_alone, outcome_at, testing, turn, turn_tested, turn_outcome}
 use Rattle.plant.specs.Turn.{after_outcome as table_outcome, after_alone as table_alone}
 use Rattle.plant.proofs.NextTest.{next_test-low, test_below, test-station}
-use Rattle.plant.proofs.RowLaws.{suspect_cell}
 use Rattle.plant.proofs.StepCells.{count_test-length, count_test-other, finish_pass-length, leave_told-length, suspect-length, exchange-length}
 use Rattle.table.specs.Line.{line, with_row}
 use Rattle.board.specs.Board.{next_of, tests, tested, pass_finished, counted, left_told, joined, suspecting, alone, after_alone, outcome_of, row_given, after_outcome, tested_at, turn_of, outcome, message, received}
@@ -66,11 +66,13 @@ module _ (n : ℕ) (t : List ℕ) (i : ℕ) (long : length t ≡ table_length n)
   pub count-line : (w m o : ℕ) → line n (count_test w n t i m o) i ≡ counted w n (line n t i) m o
   unfolding count_test counted
   count-line w m o =
-      rw (line_at n t i tests_column (omega arith)) (two next_column (next_after w n m o) tests_column (tests_made n t i + 1) (omega arith) (omega arith))
+      rw (line_at n t i tests_column (omega arith))
+      (two next_column (next_after w n m o) tests_column (tests_made n t i + 1) (omega arith) (omega arith))
 
   pub count-others : (w m o k : ℕ) → k < n → i ≢ k → line n (count_test w n t i m o) k ≡ line n t k
   unfolding count_test
-  count-others w m o k hk apart = two-other next_column (next_after w n m o) tests_column (tests_made n t i + 1) k (omega arith) (omega arith) hk apart
+  count-others w m o k hk apart =
+      two-other next_column (next_after w n m o) tests_column (tests_made n t i + 1) k (omega arith) (omega arith) hk apart
 
   -- a station is told
   pub told-line : (b : ℕ) → line n (leave_told n t i b) i ≡ left_told (line n t i) b
@@ -153,7 +155,8 @@ module _ (n : ℕ) (t : List ℕ) (i j : ℕ) (long : length t ≡ table_length 
     unfolding exchange_rows joined mine its
     tester-joins =
         rw (line-row n t i long hi)
-        (line-set_row-other n (set_row n t i mine) j its i first-long hj hi its-long (λ e. apart (sym e)) ∙ line-set_row n t i mine long hi mine-long)
+        (line-set_row-other n (set_row n t i mine) j its i first-long hj hi its-long (λ e. apart (sym e))
+        ∙ line-set_row n t i mine long hi mine-long)
 
     tested-joins : line n (exchange_rows n t i j) j ≡ joined n j (line n t j) (row n t i)
     unfolding exchange_rows joined mine its
@@ -168,12 +171,17 @@ module _ (n : ℕ) (t : List ℕ) (i j : ℕ) (long : length t ≡ table_length 
         line-set_row-other n (set_row n t i mine) j its k first-long hj hk its-long (λ e. nj (sym e))
         ∙ line-set_row-other n t i mine k long hi hk mine-long (λ e. ni (sym e))
 
-    suspect-line : line n (suspect n t i j) i ≡ suspecting (line n t i) j
-    unfolding suspecting
-    suspect-line = rw (← suspect_cell n t i j long hi hj) (line-set n t i (head + j) 1 long hi (omega arith))
+    marked-long : length (mark (row n t i) j) ≡ n
+    unfolding mark
+    marked-long = length-set (row n t i) j 1 ∙ row-length n t i long hi
+
+    suspect-line : line n (suspect n t i j) i ≡ suspecting n (line n t i) j
+    unfolding suspect suspecting
+    suspect-line = rw (line-row n t i long hi) (line-set_row n t i (mark (row n t i) j) long hi marked-long)
 
     suspect-others : (k : ℕ) → k < n → i ≢ k → line n (suspect n t i j) k ≡ line n t k
-    suspect-others k hk ne = rw (← suspect_cell n t i j long hi hj) (line-set-other n t i (head + j) 1 k long hk (omega arith) ne)
+    unfolding suspect
+    suspect-others k hk ne = line-set_row-other n t i (mark (row n t i) j) k long hi hk marked-long ne
 
     pub outcome-length : (o : ℕ) → length (table_outcome n t i j o) ≡ length t
     unfolding table_outcome
@@ -182,7 +190,8 @@ module _ (n : ℕ) (t : List ℕ) (i j : ℕ) (long : length t ≡ table_length 
         (λ a.
         by_bool (eqb o outcome_tested_told) (λ b. rw (a, b) (leave_told-length n t j i))
         (λ b.
-        by_bool (eqb o outcome_exchanged) (λ c. rw (a, b, c) (exchange-length n t i long hi j hj apart)) (λ c. rw (a, b, c) (suspect-length n t i long hi j))))
+        by_bool (eqb o outcome_exchanged) (λ c. rw (a, b, c) (exchange-length n t i long hi j hj apart))
+        (λ c. rw (a, b, c) (suspect-length n t i long hi j))))
 
     -- what comes of it, by its outcome o
     pub tester-outcome : (o : ℕ) (r : List ℕ) → (o ≡ outcome_exchanged → r ≡ row n t j)

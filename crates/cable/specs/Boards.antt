@@ -1,68 +1,105 @@
--- n boards together, each with its own line and nothing else: what an entry, and a list of entries, makes of their lines. b k is the line that board
--- k holds; a board whose status is not 0 is silent: it answers no test.
+-- n boards on one cable, each with its own line and nothing else: what an entry, and a list of entries, makes of their lines by the boards' calls
+-- alone, and what these calls answer. w is the wiring's number, b k the line that board k holds, i the entry's board, kind its kind.
 -- Assumes nothing.
-use Rattle.std.specs.Prelude.{◌≡◌, ℕ, suc, ◌<◌, Bool, true, not, ◌&&◌, ◌||◌, List, [], ◌∷◌, set, take, Option, None, Some, if◌then◌else◌, ◌==◌, slice_index}
-use Rattle.lists.specs.Search.{every}
-use Rattle.table.specs.Table.{status_column, finished_column, status_crashed, status, live}
+use Rattle.std.specs.Prelude.{◌≡◌, ℕ, suc, ◌/◌, ◌%◌, ◌<◌, Bool, false, not, ◌&&◌, ◌||◌, List, [], ◌∷◌, set, replicate, take, Option, None, Some}
+use Rattle.std.specs.Prelude.{true, Result, Ok, Err, if◌then◌else◌, ◌==◌, slice_index}
+use Rattle.std.specs.Result.{result_unwrap_or}
+use Rattle.lists.specs.declared.refusal.Refusal.{Refusal}
+use Rattle.lists.specs.Search.{every, list_of}
+use Rattle.table.specs.Table.{stride, table_length, status_column, finished_column, status_crashed, status, live}
+use Rattle.table.specs.Line.{line, is_live}
 use Rattle.table.specs.Rules.{numbered_table_refusal}
-use Rattle.plant.specs.Turn.{kind_turn, no_station, outcome_crash}
+use Rattle.station.specs.Outcome.{no_station, outcome_exchanged, outcome_crash, outcome_tested_told}
+use Rattle.plant.specs.Turn.{kind_turn}
 use Rattle.plant.specs.Entry.{Entry, State, is_crash}
 use Rattle.plant.specs.Run.{RunResult, entries, write_line, run}
-use Rattle.table.specs.Line.{line, row_of}
-use Rattle.board.specs.Board.{tested, turn_of, outcome, sent, received, round_closed}
+use Rattle.board.specs.Packed.{packed_length}
+use Rattle.board.specs.Calls.{line_check, next_answer, row_sent, replied_answer, replied_after, silent_answer, silent_after, told_after}
+use Rattle.board.specs.Calls.{exchanged_after, closed_after}
 
 -- the lines that the boards hold
 abbrev pub Lines : Type 0
 Lines = ℕ → List ℕ
 
--- whether the board that holds the line is live
-abbrev pub is_live : List ℕ → Bool
-is_live l = slice_index l status_column == 0
+-- the row that board k sends, packed, as its call writes it into a buffer of just its length
+abbrev pub row_from : ℕ → ℕ → ℕ → List ℕ → List ℕ
+row_from w n k l = row_sent w n k l (replicate (packed_length n) 0)
 
--- what board j answers to a test, if it does in time: its row
-unfoldable pub answer : ℕ → Lines → ℕ → ℕ → Option (List ℕ)
-answer n b kind j = if is_live (b j) && kind == kind_turn then Some (row_of n (b j)) else None
+-- Rule Board's turn: whom the board tests, as its call board next answers; 255 for nobody
+abbrev pub named : Result (Option ℕ) Refusal → ℕ
+named (Ok (Some j)) = j
+named (Ok None) = no_station
+named (Err r) = no_station
 
--- board i's turn, with the answer of the board that it tests
-abbrev pub reply_from : ℕ → ℕ → Lines → ℕ → ℕ → Option (List ℕ)
-reply_from w n b kind i = answer n b kind (tested w n i (b i))
+-- Rules Board's turn and Silent: what comes back in time: the row of the board named, if there is one, it is live, and the kind is 1
+unfoldable pub reply_from : ℕ → ℕ → Lines → ℕ → Result (Option ℕ) Refusal → Option (List ℕ)
+reply_from w n b kind (Ok (Some j)) = if is_live (b j) && kind == kind_turn then Some (row_from w n j (b j)) else None
+reply_from w n b kind (Ok None) = None
+reply_from w n b kind (Err r) = None
 
--- the lines after a turn of board i: its own; that of the board tested, which takes what i sends; and all others as they were
+abbrev pub tested_by : ℕ → ℕ → Lines → ℕ → ℕ
+tested_by w n b i = named (next_answer w n i (b i))
+
+abbrev pub reply_to_test : ℕ → ℕ → Lines → ℕ → ℕ → Option (List ℕ)
+reply_to_test w n b kind i = reply_from w n b kind (next_answer w n i (b i))
+
+-- the tester's call, board replied or board not replied: what it leaves and what it answers
+abbrev pub tester_after : ℕ → ℕ → ℕ → List ℕ → Option (List ℕ) → List ℕ
+tester_after w n i l None = silent_after w n i l
+tester_after w n i l (Some packed) = replied_after w n i l packed
+
+abbrev pub tester_answer : ℕ → ℕ → ℕ → List ℕ → Option (List ℕ) → Result ℕ Refusal
+tester_answer w n i l None = silent_answer w n i l
+tester_answer w n i l (Some packed) = replied_answer w n i l packed
+
+-- what board k, tested by board i, makes of its line l by what i's call answers: it is told, or it gets the row of `mine`, the line that i's call
+-- left, or nothing
+unfoldable pub after_sending : ℕ → ℕ → ℕ → ℕ → List ℕ → List ℕ → Result ℕ Refusal → List ℕ
+after_sending w n i k l mine (Ok outcome) =
+    if outcome == outcome_tested_told then told_after w n k l i
+    else (if outcome == outcome_exchanged then exchanged_after w n k l i (row_from w n i mine) else l)
+after_sending w n i k l mine (Err r) = l
+
+-- Rule Board's turn: the lines after a turn of board i
 unfoldable pub after_turn : ℕ → ℕ → Lines → ℕ → ℕ → Lines
 after_turn w n b kind i k =
-    if k == i then turn_of w n i (b i) (reply_from w n b kind i)
-    else (if k == tested w n i (b i) then received n k i (b k) (sent w n i (b i) (reply_from w n b kind i)) else b k)
+    let reply = reply_to_test w n b kind i in
+    let mine = tester_after w n i (b i) reply in
+    if k == i then mine
+    else (if k == tested_by w n b i then after_sending w n i k (b k) mine (tester_answer w n i (b i) reply) else b k)
 
--- a board that crashes falls silent
+-- a board that crashes is silent from then on
 unfoldable pub after_crash : Lines → ℕ → Lines
 after_crash b i k = if k == i then set (b k) status_column status_crashed else b k
 
 unfoldable pub after_act : ℕ → ℕ → Lines → Entry → Lines
 after_act w n b e = if is_crash e then after_crash b e.station else after_turn w n b e.kind e.station
 
--- Rule Round closes: some board is live, and every live one has finished its pass. That the round is closed is told to all
+-- Rule Board's closing: what the bus master knows: some board is live, and every live one has finished its pass
 unfoldable pub all_finished : ℕ → Lines → Bool
 all_finished n b =
     not (every (λ k. not (is_live (b k))) n) && every (λ k. not (is_live (b k)) || slice_index (b k) finished_column == 1) n
 
-unfoldable pub after_closing : ℕ → Lines → Lines
-after_closing n b = if all_finished n b then (λ k. round_closed (b k)) else b
+-- and the closing, of which all boards are told
+unfoldable pub after_closing : ℕ → ℕ → Lines → Lines
+after_closing w n b = if all_finished n b then (λ k. closed_after w n k (b k)) else b
 
 -- the lines after an entry, and after each of a list
 unfoldable pub after_entry : ℕ → ℕ → Lines → Entry → Lines
-after_entry w n b e = after_closing n (after_act w n b e)
+after_entry w n b e = after_closing w n (after_act w n b e)
 
 unfoldable pub after_entries : ℕ → ℕ → Lines → List Entry → Lines
 after_entries w n b [] = b
 after_entries w n b (e ∷ es) = after_entries w n (after_entry w n b e) es
 
--- the line of the run sheet, by what the boards did: the entry's board, whom it tested, its outcome, and its status afterwards
+-- the line of the run sheet, by what the calls answered: the entry's board, whom it tested, its outcome (255 if its call was refused, which no
+-- outcome is), and its status afterwards
 unfoldable pub entry_line : ℕ → ℕ → Lines → Entry → List ℕ
 entry_line w n b e =
     let i = e.station in
     i
-    ∷ (if is_crash e then no_station else tested w n i (b i))
-    ∷ (if is_crash e then outcome_crash else outcome w n i (b i) (reply_from w n b e.kind i))
+    ∷ (if is_crash e then no_station else tested_by w n b i)
+    ∷ (if is_crash e then outcome_crash else result_unwrap_or (tester_answer w n i (b i) (reply_to_test w n b e.kind i)) 255)
     ∷ slice_index (after_entry w n b e i) status_column ∷ []
 
 -- the sheet with the lines of the entries, from the kth on
@@ -70,18 +107,33 @@ unfoldable pub sheet_after : ℕ → ℕ → ℕ → Lines → List ℕ → List
 sheet_after w n k b sheet [] = sheet
 sheet_after w n k b sheet (e ∷ es) = sheet_after w n (suc k) (after_entry w n b e) (write_line sheet k (entry_line w n b e)) es
 
--- the boards hold what the table has: each live board its line, and who is live is the same
+-- the boards hold what the table has: each live board its line, and every board its status
 pub record Hold (n : ℕ) (t : List ℕ) (b : Lines) : Type 0 where
   pub statuses : (k : ℕ) → k < n → slice_index (b k) status_column ≡ status n t k
   pub live_lines : (k : ℕ) → k < n → live n t k ≡ true → b k ≡ line n t k
 
--- Rule Boards, of a run: boards that hold what the table has do so after every run of it, whatever that answers, after as many entries as it took;
--- and the run sheet shows what they did
-pub record SameRun (w n : ℕ) (s : State) (b : Lines) (schedule sheet : List ℕ) (o : RunResult) : Type 0 where
+-- boards that hold the lines of a table do
+abbrev pub LinesAreHeld : Type 0
+LinesAreHeld = (n : ℕ) (t : List ℕ) → Hold n t (line n t)
+
+-- Rule Boards do the run: boards that hold what the table has do so after as many entries as the run took, and its sheet shows what they answered
+pub record SameRun (w n : ℕ) (b : Lines) (schedule sheet : List ℕ) (o : RunResult) : Type 0 where
   pub held : Hold n o.state.table (after_entries w n b (take o.taken (entries schedule)))
   pub sheet_lines : o.sheet ≡ sheet_after w n 0 b sheet (take o.taken (entries schedule))
 
+-- so it is on both wirings, of every run, whatever it answers
 abbrev pub BoardsDoTheRun : Type 0
 BoardsDoTheRun =
-    (w n : ℕ) (s : State) (b : Lines) (schedule sheet : List ℕ) → numbered_table_refusal w n s.table ≡ 0 → Hold n s.table b
-    → SameRun w n s b schedule sheet (run w n s schedule sheet)
+    (w n : ℕ) (s : State) (b : Lines) (schedule sheet : List ℕ) → Hold n s.table b
+    → SameRun w n b schedule sheet (run w n s schedule sheet)
+
+-- the table of n boards: their lines, one behind the other
+unfoldable pub table_of : ℕ → Lines → List ℕ
+table_of n b = list_of (λ p. slice_index (b (p / stride n)) (p % stride n)) (table_length n)
+
+-- where the calls of each board let its line through, and the round is not over, refusals 24 and 1 to 4 let this table through, and the boards
+-- hold what it has
+abbrev pub BoardsMakeATable : Type 0
+BoardsMakeATable =
+    (w n : ℕ) (b : Lines) → 0 < n → ((k : ℕ) → k < n → line_check w n k (b k) ≡ Ok tt) → all_finished n b ≡ false
+    → (numbered_table_refusal w n (table_of n b) ≡ 0) × Hold n (table_of n b) b

@@ -1,14 +1,17 @@
--- That boards, each with its own line, together do what the table's turn does.
+-- What boards, each with its own line, do together, by their lines: a turn, a closing, and the rows that they send.
 -- Assumes nothing.
-use Rattle.std.specs.Prelude.{◌≡◌, ◌≢◌, ℕ, ◌<◌, List, length, Option, None, Some, if◌then◌else◌}
+use Rattle.std.specs.Prelude.{◌≡◌, ◌≢◌, ℕ, ◌<◌, List, length, Option, None, Some, Ok, if◌then◌else◌}
 use Rattle.table.specs.Table.{stride, table_length, row}
+use Rattle.table.specs.Line.{line, row_of, set_line}
 use Rattle.table.specs.Rules.{numbered_table_refusal}
+use Rattle.table.specs.Fresh.{fresh_table}
 use Rattle.station.specs.Rows.{union}
 use Rattle.plant.specs.Turn.{replies, turn, turn_tested, turn_outcome}
 use Rattle.plant.specs.Round.{reset_lines}
-use Rattle.table.specs.Line.{line, row_of, set_line}
-use Rattle.board.specs.Board.Message.{exchange}
 use Rattle.board.specs.Board.{tests, tested, turn_of, outcome, sent, received, round_closed}
+use Rattle.board.specs.Board.Message.{exchange}
+use Rattle.board.specs.Packed.{pack, heard}
+use Rattle.board.specs.Calls.{place_check, line_check, fresh_after}
 
 -- what station j answers to a test: its row, if it is live and the reply comes in time
 unfoldable pub answered : ℕ → List ℕ → ℕ → ℕ → Option (List ℕ)
@@ -18,8 +21,9 @@ answered n t kind j = if replies n t kind j then Some (row n t j) else None
 abbrev pub reply_to : ℕ → ℕ → List ℕ → ℕ → ℕ → Option (List ℕ)
 reply_to w n t kind i = answered n t kind (tested w n i (line n t i))
 
--- Rule Boards: after a turn of station i line i is what board i makes of its own line and the reply; the line of the station tested is what that
--- one makes of its own line and of what i sends; no other line changes; and the board's outcome and tested station are the turn's
+-- Rule Board's turn: the turn of station i tests the station that board i finds by its line, and has the outcome that it finds by its line and the
+-- reply; line i becomes what board i makes of it; the line of the station tested becomes what that board makes of it and of what i sends; no other
+-- line changes
 pub record SameTurn (w n : ℕ) (t : List ℕ) (kind i : ℕ) : Type 0 where
   pub tested_station : turn_tested w n t i ≡ tested w n i (line n t i)
   pub outcome_number : turn_outcome w n t kind i ≡ outcome w n i (line n t i) (reply_to w n t kind i)
@@ -32,13 +36,7 @@ pub record SameTurn (w n : ℕ) (t : List ℕ) (kind i : ℕ) : Type 0 where
 abbrev pub BoardsDoTheTurn : Type 0
 BoardsDoTheTurn = (w n : ℕ) (t : List ℕ) (kind i : ℕ) → numbered_table_refusal w n t ≡ 0 → i < n → SameTurn w n t kind i
 
--- Rule Boards, of a closing: each line of the closed table is what its board makes of it
-abbrev pub BoardsCloseTheRound : Type 0
-BoardsCloseTheRound =
-    (n : ℕ) (t : List ℕ) → length t ≡ table_length n → (k : ℕ) → k < n → line n (reset_lines n t) k ≡ round_closed (line n t k)
-
--- the same as one equation, by which plant's turn could be defined: the line of the tester and that of the station tested are written, each as its
--- board makes it
+-- the same as one equation: the lines of the tester and of the station tested are written, each as its board makes it
 unfoldable pub turn_by_lines : ℕ → ℕ → List ℕ → ℕ → ℕ → List ℕ
 turn_by_lines w n t kind i =
     let l = line n t i in
@@ -51,8 +49,25 @@ abbrev pub TurnIsByLines : Type 0
 TurnIsByLines =
     (w n : ℕ) (t : List ℕ) (kind i : ℕ) → numbered_table_refusal w n t ≡ 0 → i < n → turn w n t kind i ≡ turn_by_lines w n t kind i
 
--- Rule Exchange, of what is sent: the row that the tester has after joining serves as well as the one that it had at the test
+-- Rule Board's closing: each line of the closed table is what its board makes of it
+abbrev pub BoardsCloseTheRound : Type 0
+BoardsCloseTheRound =
+    (n : ℕ) (t : List ℕ) → length t ≡ table_length n → (k : ℕ) → k < n → line n (reset_lines n t) k ≡ round_closed (line n t k)
+
+-- Rule Either row serves: the board tested makes the same of its line l of the tester's row after joining as of that before
 abbrev pub EitherRowServes : Type 0
 EitherRowServes =
     (n i j : ℕ) (l mine : List ℕ) → length l ≡ stride n → length mine ≡ n
     → received n j i l (exchange (union mine (row_of n l) i)) ≡ received n j i l (exchange mine)
+
+-- Rule Rows travel: the row of a station, packed and heard, is that row
+abbrev pub RowsTravel : Type 0
+RowsTravel = (w n : ℕ) (t : List ℕ) (i : ℕ) → numbered_table_refusal w n t ≡ 0 → i < n → heard n i (pack n (row n t i)) ≡ row n t i
+
+-- Rule Lines of tables: the calls of its board let each line through
+abbrev pub LinesOfTables : Type 0
+LinesOfTables = (w n : ℕ) (t : List ℕ) (i : ℕ) → numbered_table_refusal w n t ≡ 0 → i < n → line_check w n i (line n t i) ≡ Ok tt
+
+-- the line that call board fresh leaves, where it is not refused, is that line of the fresh table
+abbrev pub FreshBoards : Type 0
+FreshBoards = (w n i : ℕ) (l : List ℕ) → place_check w n i (length l) ≡ Ok tt → fresh_after w n i l ≡ line n (fresh_table n) i

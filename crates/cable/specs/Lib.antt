@@ -1,5 +1,3 @@
--- What is claimed of n boards, each with its own line, together.
+-- What is claimed of n boards on one cable, each with its own line.
 pub mod Claims
 pub mod Boards
-pub mod Cable
-pub mod CableRun

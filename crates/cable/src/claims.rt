@@ -1,30 +1,21 @@
-// What is claimed of boards that each hold their own line (specs/Claims.antt), each the contract of a function that does nothing.
+// What is claimed of n boards, each with its own line (specs/Claims.antt, specs/Boards.antt), each the contract of a function that does nothing.
 
-ghost use Rattle.cable.specs.Claims.{BoardsDoTheTurn, BoardsCloseTheRound, TurnIsByLines, EitherRowServes};
-ghost use Rattle.cable.specs.Boards.{BoardsDoTheRun};
-ghost use Rattle.board.specs.Packed.{RowsTravel, AnyBytesAreARow};
-ghost use Rattle.cable.specs.Cable.{BoardsOverTheCable, LinesOfTables};
-ghost use Rattle.board.specs.Keeps.{CallsKeepTheRules};
-ghost use Rattle.cable.specs.CableRun.{RunOverTheCable};
+ghost use Rattle.cable.specs.Claims.{BoardsDoTheTurn, TurnIsByLines, BoardsCloseTheRound, EitherRowServes, RowsTravel, LinesOfTables, FreshBoards};
+ghost use Rattle.cable.specs.Boards.{LinesAreHeld, BoardsDoTheRun, BoardsMakeATable};
 
-// Boards together do what the table's turn does.
+// Two boards do what the table's turn does, each by its own line.
 pub fn boards_do_the_turn()
     ensures { BoardsDoTheTurn }
 {}
 
-// And what a closing of the round does.
-pub fn boards_close_the_round()
-    ensures { BoardsCloseTheRound }
-{}
-
-// And what a run does, entry by entry.
-pub fn boards_do_the_run()
-    ensures { BoardsDoTheRun }
-{}
-
-// The turn as one equation, by lines.
+// The same as one equation.
 pub fn turn_is_by_lines()
     ensures { TurnIsByLines }
+{}
+
+// And all boards what a closing of the round does.
+pub fn boards_close_the_round()
+    ensures { BoardsCloseTheRound }
 {}
 
 // A tester may send its row as it is after joining.
@@ -32,19 +23,9 @@ pub fn either_row_serves()
     ensures { EitherRowServes }
 {}
 
-// Packed rows come back as they were sent.
+// A row, packed and heard, is as it was.
 pub fn rows_travel()
     ensures { RowsTravel }
-{}
-
-// Whatever bytes come are a row.
-pub fn any_bytes_are_a_row()
-    ensures { AnyBytesAreARow }
-{}
-
-// The calls of two boards over the cable do what the table's turn does.
-pub fn boards_over_the_cable()
-    ensures { BoardsOverTheCable }
 {}
 
 // Each line of a table that is let through is let through by the calls of its board.
@@ -52,12 +33,22 @@ pub fn lines_of_tables()
     ensures { LinesOfTables }
 {}
 
-// No call leaves a line that the next call refuses, whatever comes over the cable.
-pub fn calls_keep_the_rules()
-    ensures { CallsKeepTheRules }
+// Fresh boards hold the lines of the fresh table.
+pub fn fresh_boards()
+    ensures { FreshBoards }
 {}
 
-// And the calls of all boards over the cable what a run does.
-pub fn run_over_the_cable()
-    ensures { RunOverTheCable }
+// n boards, each by its calls alone, do what a run does on the table.
+pub fn boards_do_the_run()
+    ensures { BoardsDoTheRun }
+{}
+
+// For every table there are boards that hold what it has.
+pub fn lines_are_held()
+    ensures { LinesAreHeld }
+{}
+
+// And for all boards whose lines are let through, a table.
+pub fn boards_make_a_table()
+    ensures { BoardsMakeATable }
 {}

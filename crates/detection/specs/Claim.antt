@@ -14,21 +14,32 @@ use Rattle.detection.specs.Runs.{Call, Taken, after_runs, taken_all, crashes, is
 use Rattle.detection.specs.Rounds.{all_taken, Rounds, cut, tests_in, tests_of_all, turns_in, nth_turn_finishes}
 use Rattle.table.specs.Properties.{at_start, live_count, none_suspected}
 
--- a live board stands at the number x
-abbrev pub live_at : ℕ → List ℕ → ℕ → Bool
-live_at n t x = is_present n x && live n t x
+-- a board stands at the number x, and it is live
+abbrev pub stands_at : ℕ → (ℕ → Bool) → ℕ → Bool
+stands_at n is_live x = is_present n x && is_live x
 
--- the group of j at level s, without the absent numbers, has no live board
+-- by who is live: the group of j at level s, without the absent numbers, has no live board
+abbrev pub nobody_live_by : ℕ → (ℕ → Bool) → ℕ → ℕ → Bool
+nobody_live_by n is_live j s = every (λ k. not (stands_at n is_live (member j s k))) (width s)
+
+-- and so it is in the table
 unfoldable pub group_without_live : ℕ → List ℕ → ℕ → ℕ → Bool
-group_without_live n t j s = every (λ k. not (live_at n t (member j s k))) (width s)
+group_without_live n t j s = nobody_live_by n (live n t) j s
 
--- the pairs of one of the n stations, live or not, and a level from 1 to d whose group has no live board
+-- the pairs of one of the n stations, live or not, and a level from 1 to d of which the test holds
+abbrev pub pairs_by : ℕ → (ℕ → ℕ → Bool) → ℕ
+pairs_by n nobody_live = sum_below (λ j. sum_below (λ h. bit (nobody_live j (suc h))) (dimension n)) n
+
+-- those whose group has no live board
 unfoldable pub pairs_without_live : ℕ → List ℕ → ℕ
-pairs_without_live n t = sum_below (λ j. sum_below (λ h. bit (group_without_live n t j (suc h))) (dimension n)) n
+pairs_without_live n t = pairs_by n (group_without_live n t)
 
--- Rule Count of tests: n·d, less one for each station and each level at which its group has no live station
+-- Rule Count of tests: n·d, less one for each station and each level at which its group has no live station; so many are `pairs`
+abbrev pub tests_less : ℕ → ℕ → ℕ
+tests_less n pairs = n * dimension n - pairs
+
 abbrev pub tests_per_round : ℕ → List ℕ → ℕ
-tests_per_round n t = n * dimension n - pairs_without_live n t
+tests_per_round n t = tests_less n (pairs_without_live n t)
 
 -- the rounds of the list of runs
 abbrev pub rounds_of : State → List Call → Rounds
@@ -47,8 +58,11 @@ abbrev pub TurnsOk : ℕ → ℕ → List Taken → Type 0
 TurnsOk n i round = (turns_in i round ≤ n) × (n ≤ turns_in i round → nth_turn_finishes i n round ≡ true)
 
 -- Rule Count of tests, of any wiring: on the ring n
+abbrev pub count_by : ℕ → ℕ → ℕ → ℕ
+count_by w n pairs = if is_ring w then n else tests_less n pairs
+
 abbrev pub count_of : ℕ → ℕ → List ℕ → ℕ
-count_of w n t = if is_ring w then n else tests_per_round n t
+count_of w n t = count_by w n (pairs_without_live n t)
 
 -- from which round on it holds, where so many are enough: on the ring from the first
 abbrev pub counted_from : ℕ → ℕ → ℕ

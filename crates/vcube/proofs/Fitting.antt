@@ -43,6 +43,7 @@ refusal-fits Refusal.NoOpening = refl
 refusal-fits Refusal.FieldOrder = refl
 refusal-fits Refusal.ReportTooShort = refl
 refusal-fits Refusal.NoSuchWiring = refl
+refusal-fits Refusal.LineLength = refl
 
 -- of a status
 status-fits : (s : Status) → ltb (length (status_words s)) words_length ≡ true

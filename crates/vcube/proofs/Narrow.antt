@@ -34,7 +34,7 @@ abbrev pub Narrow {ℓ} : {A : Type ℓ} → (ℕ → A) → Type ℓ
 Narrow f = (x b : ℕ) → b ≡ min x 255 → f b ≡ f x
 
 -- it does where it gives one value from 255 on
-narrow {ℓ} : {A : Type ℓ} (f : ℕ → A) (v : A) → ((x : ℕ) → 255 ≤ x → f x ≡ v) → Narrow f
+pub narrow {ℓ} : {A : Type ℓ} (f : ℕ → A) (v : A) → ((x : ℕ) → 255 ≤ x → f x ≡ v) → Narrow f
 narrow f v far x b e = pick (dec_lt x 255)
   where
     pick : Dec (x < 255) → f b ≡ f x
@@ -47,7 +47,7 @@ narrow-unless {ℓ} : {A : Type ℓ} (f : ℕ → Check) (v : Check) (a : A) (g 
 narrow-unless f v a g far h =
     narrow (λ x. unless_refused (f x) a (g x)) a (λ x l. refused_leaves (f x) a (g x) (λ e. h (sym (far x l) ∙ e)))
 
-station_far : (n x : ℕ) → is_size n ≡ true → 255 ≤ x → station_check n x ≡ Err NoSuchStation
+pub station_far : (n x : ℕ) → is_size n ≡ true → 255 ≤ x → station_check n x ≡ Err NoSuchStation
 station_far n x e h = rw (le-ltb x n (omega (arith, size-bounds n e)))
 
 -- the row of a station

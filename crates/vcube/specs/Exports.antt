@@ -54,7 +54,7 @@ pub record PairResult : Type 0 where
 abbrev pub pair_out : ℕ → ℕ → ℕ → PairResult
 pair_out number by of = record { number = number; by = by; of = of }
 
--- stands for both stations where there is no pair
+-- stands for both stations where there is no pair, and for the station where there is no next test
 abbrev pub no_station : ℕ
 no_station = 255
 
@@ -63,6 +63,12 @@ abbrev pub pair_of : Result (Option Doubt) Refusal → PairResult
 pair_of (Ok (Some pair)) = pair_out 0 pair.by.0 pair.of.0
 pair_of (Ok None) = pair_out 0 no_station no_station
 pair_of (Err refusal) = pair_out (number_of refusal) 0 0
+
+-- Board next: the station that the next turn tests; 0 where the call is refused
+abbrev pub station_number : Result (Option ℕ) Refusal → ℕ
+station_number (Ok (Some j)) = j
+station_number (Ok None) = no_station
+station_number (Err refusal) = 0
 
 -- Save: the tally by its parts
 abbrev pub tally_of : ℕ → ℕ → Tally

@@ -36,6 +36,7 @@ ghost use Rattle.vcube.specs.Exports.{slot_out, slot_figures, wait_out, wait_fig
 ghost use Rattle.vcube.specs.Exports.{version_number};
 ghost use Rattle.vcube.specs.Exports.{totals_members, totals_with, figures_out, totals_out};
 
+pub mod boards;
 pub mod claims;
 
 use figures::{Figures, Totals, adding, batch};
@@ -45,27 +46,27 @@ use latency::wait::{self, Wait};
 use lists::bytes;
 use lists::refusal::{Refusal, number_of, parts};
 use plant::Tally;
-use station::outcome::Outcome;
 use saved::{Loaded, convert, load, save};
 use slots::board::{self, Slot};
+use station::outcome::Outcome;
 use station::{due, groups, rows};
 use table::status::Status;
 use table::{Level, Station, cells, fresh};
 
-// Stands for the two stations of a pair where the doubt lamp has none.
+// Stands for the two stations of a pair where the doubt lamp has none, and for the station of a board's next test where there is none.
 const NO_STATION: u8 = 255;
 
 // The version of the library, as in include/vcube.h.
 const MAJOR: u32 = 1;
 
-const MINOR: u32 = 2;
+const MINOR: u32 = 3;
 
 const PATCH: u32 = 0;
 
 // Version: that of the library, as one number.
 #[unsafe(no_mangle)]
 pub extern "C" fn vcube_version() -> u32
-    ensures { result ≡ version_number 1 2 0 }
+    ensures { result ≡ version_number 1 3 0 }
 {
     10000 * MAJOR + 100 * MINOR + PATCH
 }

@@ -4,9 +4,9 @@
 use crate::documents::{due, group};
 use crate::plant::{driven, Plant, CUBE, RING};
 use simulator::{
-    assignment, convert, converted_length, doubt_lamp, drive, figures, join_totals, load, mend,
-    read_input, save, saved_size, slot, totals, wait, Fraction, Slot, SCHEDULE_LENGTH,
-    WORDS_LENGTH,
+    assignment, board_exchanged, board_row, convert, converted_length, doubt_lamp, drive, figures,
+    join_totals, load, mend, read_input, save, saved_size, slot, totals, wait, Cable, Fraction,
+    Given, Slot, SCHEDULE_LENGTH, WORDS_LENGTH,
 };
 
 const RULES: &str = include_str!("../../../docs/RULES.md");
@@ -54,23 +54,38 @@ fn files<const COUNT: usize>(begin: &str) -> [Vec<u8>; COUNT] {
     files
 }
 
+/// What boards with the lines of this plant make of a schedule: the sheet, and their lines.
+fn by_boards(plant: &Plant, schedule: &[u8]) -> (Vec<[u8; 4]>, Vec<u8>) {
+    let mut cable = Cable::new(plant.wiring, plant.n, &plant.table);
+    let entries = schedule.chunks_exact(2);
+    let sheet = entries.map(|entry| cable.take([entry[0], entry[1]]));
+    let sheet = sheet.collect();
+    let mut table = vec![170; plant.table.len()];
+    cable.encode(&mut table);
+    (sheet, table)
+}
+
 #[test]
 fn worked_run_on_the_cube() {
     let (schedule, sheet) = worked_run("### A worked run");
     assert_eq!(sheet.len(), 11);
     let mut plant = Plant::fresh(CUBE, 4);
+    let of_boards = [8, 22].map(|length| by_boards(&plant, &schedule[..length]));
     assert_eq!(plant.run(&schedule[..8]), (0, 4, sheet[..4].to_vec()));
     // The table printed under The table.
     let lines = RULES.lines().map(str::trim_start);
     let printed = lines.filter(|line| line.starts_with("from byte "));
     let words = printed.map(|line| line.split_whitespace().skip(3));
     let table = words.flat_map(|words| words.map_while(|word| word.parse().ok()));
-    assert_eq!(plant.table, table.collect::<Vec<u8>>());
+    let table = table.collect::<Vec<u8>>();
+    assert_eq!(plant.table, table);
+    assert_eq!(of_boards[0], (sheet[..4].to_vec(), table));
     assert_eq!(plant.run(&schedule[8..]), (0, 7, sheet[4..].to_vec()));
     assert_eq!(plant.tally, (1, 8));
     let other = [0, 1, 0, 0, 255, 0, 0, 1, 0, 0];
     let lines = [other, [2, 1, 0, 0, 0, 1, 0, 0, 0, 0], other, other];
     assert_eq!(plant.table, lines.concat());
+    assert_eq!(of_boards[1], (sheet, lines.concat()));
 }
 
 #[test]
@@ -79,11 +94,31 @@ fn worked_run_on_the_ring() {
     assert_eq!(sheet.len(), 7);
     let mut plant = Plant::fresh(RING, 4);
     plant.line_mut(1)[0] = 1;
-    assert_eq!(plant.run(&schedule), (0, 7, sheet));
+    let of_boards = by_boards(&plant, &schedule);
+    assert_eq!(plant.run(&schedule), (0, 7, sheet.clone()));
     assert_eq!(plant.tally, (1, 4));
     let other = [0, 1, 0, 0, 255, 0, 0, 1, 0, 0];
     let lines = [other, [1, 1, 0, 0, 255, 1, 0, 0, 0, 0], other, other];
     assert_eq!(plant.table, lines.concat());
+    assert_eq!(of_boards, (sheet, lines.concat()));
+}
+
+/// Of eleven boards 3 suspects 0, 2, 8 and 10, and joins a row of which all bits are 1: it takes
+/// neither its own nor that of the sender, 9, and no bit behind that of board 10.
+#[test]
+fn packed_rows() {
+    let mut plant = Plant::fresh(RING, 11).with(&[(3, 0), (3, 2), (3, 8), (3, 10)]);
+    let (mut packed, wiring) = ([170; 2], RING);
+    let given = Given {
+        wiring,
+        n: 11,
+        own: 3,
+    };
+    assert_eq!(board_row(given, plant.line(3), &mut packed), 0);
+    assert_eq!(packed, [5, 5]);
+    let line = plant.line_mut(3);
+    assert_eq!(board_exchanged(given, line, 9, &[255; 2]), 0);
+    assert_eq!(line[6..], [1, 1, 1, 0, 1, 1, 1, 1, 1, 0, 1]);
 }
 
 #[test]

@@ -7,8 +7,8 @@
 //! how a record is written; `compare --with` starts this program.
 //!
 //! Calls that the types cannot express go through [`raw`]: those with a wiring number
-//! that is no wiring, and with a buffer of words, or a schedule of an input, of another
-//! length.
+//! that is no wiring, and with a buffer of words, a schedule of an input, the line of a
+//! new board or a buffer for its row of another length.
 //!
 //! Exit status: 0 all calls give what they must; 2 the record cannot be read; any other
 //! if a call gives something else.
@@ -145,13 +145,14 @@ fn byte(station: Station) -> u8 {
     station.0.try_into().expect("a station in a buffer")
 }
 
-/// The last granted number by its type, and back.
+/// The last granted number by its type.
 fn last_station(last: usize) -> Option<Station> {
     (last != NO_STATION.into()).then_some(Station(last))
 }
 
-fn last_number(last: Option<Station>) -> usize {
-    last.map_or(NO_STATION.into(), |station| station.0)
+/// The number of a station, if there is one.
+fn station_number(station: Option<Station>) -> usize {
+    station.map_or(NO_STATION.into(), |station| station.0)
 }
 
 fn totals(members: &[u64]) -> Totals {
@@ -288,6 +289,30 @@ fn check_changes(n: usize, before: &[u8], table: &[u8], report: &[u8], count: us
     assert_eq!(mended, table);
 }
 
+/// A call of the board with this line, which the board's is afterwards. None where the
+/// wiring is no wiring.
+fn on_line<T>(
+    wired: usize,
+    n: usize,
+    own: usize,
+    line: &mut [u8],
+    call: impl FnOnce(&mut Board) -> Result<T, Refusal>,
+) -> Option<Result<T, Refusal>> {
+    let board = Board::from_line(wiring(wired)?, n, Station(own), line);
+    Some(board.and_then(|mut board| {
+        let given = call(&mut board);
+        line.copy_from_slice(board.line());
+        assert_eq!(line[0], board.status().number());
+        given
+    }))
+}
+
+/// Puts the outcome of a turn there, 0 where it was refused; gives the number.
+fn put_outcome(place: &mut usize, given: Result<Outcome, Refusal>) -> u8 {
+    *place = given.map_or(0, |outcome| outcome.number().into());
+    number(given)
+}
+
 /// How a call was made, and its number.
 enum Made {
     ByTypes(u8),
@@ -401,7 +426,7 @@ fn make(function: &str, lent: &mut [Argument]) -> Option<Made> {
             let mut station = last_station(*last);
             let driven = drive(wiring, *n, table, &mut tally, &mut station);
             (*rounds, *tests) = (tally.rounds, tally.tests);
-            (*last, *grants) = (last_number(station), driven.grants);
+            (*last, *grants) = (station_number(station), driven.grants);
             driven.refusal.map_or(0, Refusal::number)
         }
         ("vcube_doubt_lamp", [Size(wired), Size(n), Bytes(table), Figure(by), Figure(of)]) => {
@@ -532,6 +557,83 @@ fn make(function: &str, lent: &mut [Argument]) -> Option<Made> {
             };
             (*n, *entries, *line) = (read.n, read.entries, unread);
             put_words(words, said)
+        }
+        ("vcube_board_fresh", [Size(wired), Size(n), Size(own), Bytes(line)]) => {
+            let (Some(wiring), true) = (wiring(*wired), line.len() == line_length(*n)) else {
+                return Some(ByNumbers(raw::board_fresh(*wired, *n, *own, line)));
+            };
+            let given = Board::new(wiring, *n, Station(*own));
+            if let Ok(board) = &given {
+                line.copy_from_slice(board.line());
+            }
+            number(given)
+        }
+        ("vcube_board_next", [Size(wired), Size(n), Size(own), Bytes(line), Figure(tested)]) => {
+            let Some(given) = on_line(*wired, *n, *own, line, |board| board.next()) else {
+                return Some(ByNumbers(raw::board_next(*wired, *n, *own, line, tested)));
+            };
+            *tested = given.map_or(0, station_number);
+            number(given)
+        }
+        ("vcube_board_row", [Size(wired), Size(n), Size(own), Bytes(line), Bytes(packed)]) => {
+            let given = on_line(*wired, *n, *own, line, |board| board.row());
+            let (Some(given), true) = (given, packed.len() == packed_length(*n)) else {
+                return Some(ByNumbers(raw::board_row(*wired, *n, *own, line, packed)));
+            };
+            if let Ok(row) = given {
+                packed.copy_from_slice(&row);
+            }
+            number(given)
+        }
+        (
+            "vcube_board_replied",
+            [Size(wired), Size(n), Size(own), Bytes(line), Bytes(packed), Figure(outcome)],
+        ) => {
+            let given = on_line(*wired, *n, *own, line, |board| board.replied(packed));
+            let Some(given) = given else {
+                let number = raw::board_replied(*wired, *n, *own, line, packed, outcome);
+                return Some(ByNumbers(number));
+            };
+            put_outcome(outcome, given)
+        }
+        (
+            "vcube_board_not_replied",
+            [Size(wired), Size(n), Size(own), Bytes(line), Figure(outcome)],
+        ) => {
+            let given = on_line(*wired, *n, *own, line, |board| board.not_replied());
+            let Some(given) = given else {
+                let number = raw::board_not_replied(*wired, *n, *own, line, outcome);
+                return Some(ByNumbers(number));
+            };
+            put_outcome(outcome, given)
+        }
+        ("vcube_board_told", [Size(wired), Size(n), Size(own), Bytes(line), Size(by)]) => {
+            let told = |board: &mut Board| board.told(Station(*by));
+            let Some(given) = on_line(*wired, *n, *own, line, told) else {
+                return Some(ByNumbers(raw::board_told(*wired, *n, *own, line, *by)));
+            };
+            number(given)
+        }
+        (
+            "vcube_board_exchanged",
+            [Size(wired), Size(n), Size(own), Bytes(line), Size(from), Bytes(packed)],
+        ) => {
+            let exchanged = |board: &mut Board| board.exchanged(Station(*from), packed);
+            let Some(given) = on_line(*wired, *n, *own, line, exchanged) else {
+                let number = raw::board_exchanged(*wired, *n, *own, line, *from, packed);
+                return Some(ByNumbers(number));
+            };
+            number(given)
+        }
+        ("vcube_board_round_closed", [Size(wired), Size(n), Size(own), Bytes(line)]) => {
+            let close = |board: &mut Board| {
+                board.round_closed();
+                Ok(())
+            };
+            let Some(given) = on_line(*wired, *n, *own, line, close) else {
+                return Some(ByNumbers(raw::board_round_closed(*wired, *n, *own, line)));
+            };
+            number(given)
         }
         _ => return None,
     };

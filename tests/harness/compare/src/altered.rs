@@ -10,7 +10,7 @@ use crate::header::{self, Function};
 use crate::{record, replayer};
 
 /// Among so many calls each function has one that is accepted.
-const ENOUGH: u64 = 5_000;
+const ENOUGH: u64 = 6_000;
 
 /// Gives how many alterations were noticed, which is all.
 pub fn check(source: Source, program: &Path) -> Result<usize, String> {

@@ -3,7 +3,7 @@
 //! include/vcube.h adds what the simulator does not know: numbers of any width, and where figures go. A row is its start in the table and its
 //! length. A doubt lamp that has no pair gives 255 for both stations.
 
-use simulator::{Figures, Totals};
+use simulator::{Figures, Given, Totals};
 
 use crate::call::{members, number, Answer, Call};
 
@@ -138,6 +138,32 @@ fn make(name: &str, arguments: &mut [Vec<u8>]) -> u8 {
             put(line, given.line);
             given.number
         }
+        ("vcube_board_fresh", [wiring, n, own, line]) => {
+            simulator::board_fresh(given(wiring, n, own), line)
+        }
+        ("vcube_board_next", [wiring, n, own, line, tested]) => {
+            put_byte(tested, simulator::board_next(given(wiring, n, own), line))
+        }
+        ("vcube_board_row", [wiring, n, own, line, packed]) => {
+            simulator::board_row(given(wiring, n, own), line, packed)
+        }
+        ("vcube_board_replied", [wiring, n, own, line, packed, outcome]) => put_byte(
+            outcome,
+            simulator::board_replied(given(wiring, n, own), line, packed),
+        ),
+        ("vcube_board_not_replied", [wiring, n, own, line, outcome]) => put_byte(
+            outcome,
+            simulator::board_not_replied(given(wiring, n, own), line),
+        ),
+        ("vcube_board_told", [wiring, n, own, line, by]) => {
+            simulator::board_told(given(wiring, n, own), line, narrow(by))
+        }
+        ("vcube_board_exchanged", [wiring, n, own, line, from, packed]) => {
+            simulator::board_exchanged(given(wiring, n, own), line, narrow(from), packed)
+        }
+        ("vcube_board_round_closed", [wiring, n, own, line]) => {
+            simulator::board_round_closed(given(wiring, n, own), line)
+        }
         (name, arguments) => panic!(
             "{name} with {} arguments: the simulator has no such call",
             arguments.len()
@@ -152,6 +178,14 @@ fn wide(bytes: &[u8]) -> usize {
 /// A station or level as the simulator takes it. All numbers from 255 on are out of range for every size, so they are refused alike.
 fn narrow(bytes: &[u8]) -> u8 {
     number(bytes).min(255) as u8
+}
+
+fn given(wiring: &[u8], n: &[u8], own: &[u8]) -> Given {
+    Given {
+        wiring: wide(wiring),
+        n: wide(n),
+        own: narrow(own),
+    }
 }
 
 /// Rounds and tests.
@@ -172,6 +206,11 @@ fn put(place: &mut [u8], figure: usize) {
 fn put_second(place: &mut [u8], (number, figure): (u8, usize)) -> u8 {
     put(place, figure);
     number
+}
+
+/// The same with a figure of one byte.
+fn put_byte(place: &mut [u8], (number, figure): (u8, u8)) -> u8 {
+    put_second(place, (number, figure.into()))
 }
 
 fn results(bytes: &[u8]) -> Vec<u16> {

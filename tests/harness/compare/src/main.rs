@@ -5,6 +5,7 @@
 mod altered;
 mod answer;
 mod blocks;
+mod boards;
 mod call;
 mod generate;
 mod header;
@@ -45,6 +46,7 @@ fn work(options: &Options) -> Result<String, String> {
         Task::Altered(programs) => alter(options.source, programs),
         Task::With(programs) => compare(options, programs),
         Task::Answer(path) => answer_again(path),
+        Task::Boards(programs) => boards::check(options, programs),
     }
 }
 

@@ -10,7 +10,8 @@ const USAGE: &str =
     "usage: compare [--seed S] [--long] [--calls N | --only K] --record FILE | --with PROGRAM ..
        compare [--seed S] [--long] --only K
        compare [--seed S] --altered PROGRAM ..
-       compare --answer FILE";
+       compare --answer FILE
+       compare [--seed S] [--calls N | --only K] --boards [PROGRAM ..]";
 
 const DEFAULT_CALLS: u64 = 900_000;
 
@@ -25,6 +26,8 @@ pub enum Task {
     Altered(Vec<PathBuf>),
     /// Lets the simulator make the calls of a record again.
     Answer(PathBuf),
+    /// Lets simulator and programs run schedules, by the numbers of calls, on the table and on boards.
+    Boards(Vec<PathBuf>),
 }
 
 pub struct Options {
@@ -57,6 +60,7 @@ impl Options {
                 (Some("--answer"), Task::Print) => task = Task::Answer(words.value()?),
                 (Some("--with"), Task::Print) => task = Task::With(programs(&mut words)?),
                 (Some("--altered"), Task::Print) => task = Task::Altered(programs(&mut words)?),
+                (Some("--boards"), Task::Print) => task = Task::Boards(rest(&mut words)),
                 _ => return Err(words.usage()),
             }
         }
@@ -71,9 +75,13 @@ impl Options {
     }
 }
 
+fn rest(words: &mut Words) -> Vec<PathBuf> {
+    words.rest().into_iter().map(PathBuf::from).collect()
+}
+
 /// The words that are left, of which there is at least one.
 fn programs(words: &mut Words) -> Result<Vec<PathBuf>, String> {
-    let programs: Vec<PathBuf> = words.rest().into_iter().map(PathBuf::from).collect();
+    let programs = rest(words);
     match programs.is_empty() {
         true => Err(words.usage()),
         false => Ok(programs),

@@ -63,12 +63,23 @@ fn measure(call: &Call) -> (usize, u128, usize) {
     (length, sum, odd)
 }
 
-/// The plainest bytes for an argument of this length: a fresh table, or zeros.
+/// The plainest bytes for an argument of this length: a fresh table, the same as far as a line goes, or zeros.
 fn plain(call: &Call, k: usize) -> Vec<u8> {
-    match plant(call) {
-        Some((n, table)) if table == k => shared::table::fresh(n),
-        _ => vec![0; call.arguments[k].len()],
+    let length = call.arguments[k].len();
+    match (plant(call), board(call)) {
+        (Some((n, table)), _) if table == k => shared::table::fresh(n),
+        (_, Some((n, line))) if line == k => shared::table::fresh(n)[..length].to_vec(),
+        _ => vec![0; length],
     }
+}
+
+/// The size, and the place of a board's line that has the right length for it.
+fn board(call: &Call) -> Option<(usize, usize)> {
+    let (size, line) = (place(call, "n")?, place(call, "line")?);
+    let is_list = call.function.arguments[line].form.is_list();
+    let n = number(&call.arguments[size]) as usize;
+    let is_right = SIZES.contains(&n) && call.arguments[line].len() == line_length(n);
+    (is_list && is_right).then_some((n, line))
 }
 
 /// The size, and the place of a table that has the right length for it.
@@ -82,6 +93,7 @@ fn plant(call: &Call) -> Option<(usize, usize)> {
 /// Smaller calls, those that are much smaller first.
 fn smaller(call: &Call) -> Vec<Call> {
     let mut smaller = without_stations(call);
+    smaller.extend(without_last_stations(call));
     smaller.extend(with_fewer_entries(call));
     for (k, argument) in call.function.arguments.iter().enumerate() {
         let (bytes, width) = (&call.arguments[k], argument.form.width);
@@ -182,6 +194,28 @@ fn without_stations(call: &Call) -> Vec<Call> {
     };
     parts(n, 1)
         .filter(|part| SIZES.contains(&(n - part.len())))
+        .map(without)
+        .collect()
+}
+
+/// A board's line without the last stations, and a packed row of as many.
+fn without_last_stations(call: &Call) -> Vec<Call> {
+    let Some((n, line)) = board(call) else {
+        return Vec::new();
+    };
+    let without = |left: usize| {
+        let mut less = call.clone();
+        less.arguments[place(call, "n").expect("a size")] = call::size(left);
+        less.arguments[line].truncate(line_length(left));
+        if let Some(packed) = place(call, "packed") {
+            let fewer = n.div_ceil(8) - left.div_ceil(8);
+            let length = call.arguments[packed].len();
+            less.arguments[packed].truncate(length.saturating_sub(fewer));
+        }
+        less
+    };
+    let left = [n / 2, n - 1].into_iter();
+    left.filter(|left| SIZES.contains(left))
         .map(without)
         .collect()
 }

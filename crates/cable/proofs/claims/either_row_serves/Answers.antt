@@ -1,5 +1,5 @@
 -- The law itself.
-use Rattle.cable.proofs.OneEquation.{either-row-serves}
+use Rattle.cable.proofs.RowsSent.{either-row-serves}
 use Rattle.cable.proofs.claims.either_row_serves.Goals as goal
 
 pub returns : goal.returns

@@ -67,7 +67,11 @@ pub fn count_anew(table: &mut [u8], size: Size, random: &mut Random) {
 pub fn break_one(table: &mut [u8], size: Size, random: &mut Random) {
     let own = random.below(size);
     let length = line_length(size);
-    let line = &mut table[own * length..][..length];
+    break_line(&mut table[own * length..][..length], own, size, random);
+}
+
+/// The same of a line.
+pub fn break_line(line: &mut [u8], own: usize, size: Size, random: &mut Random) {
     let (status, place, byte) = wrong(own, size, random);
     set_status(line, own, size, status, random);
     line[place] = byte;

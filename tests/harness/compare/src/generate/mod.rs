@@ -1,6 +1,7 @@
 //! Random calls. Each is first made so that it is accepted; then, now and then, one or several of its parts are made wrong. The places of
 //! figures that a call only writes hold anything before it.
 
+mod boards;
 mod files;
 mod lines;
 mod long;
@@ -26,6 +27,9 @@ pub use files::saved_length;
 /// The size of the plant that a call is made for.
 type Size = usize;
 
+/// One in so many calls is that of a board.
+const OF_BOARDS: u64 = 6;
+
 /// Where calls come from.
 #[derive(Clone, Copy)]
 pub struct Source {
@@ -43,13 +47,54 @@ impl fmt::Display for Source {
 }
 
 impl Source {
-    /// The call with this number.
+    /// The call with this number. Each sixth is one of a board; the others have numbers of their own.
     pub fn call(self, number: u64) -> Call {
+        let of_board = !self.is_long && number % OF_BOARDS == 0;
+        let number = match self.is_long || of_board {
+            true => number,
+            false => number - number / OF_BOARDS,
+        };
         let random = &mut Random::numbered(self.seed, number);
+        if of_board {
+            return of_one_board(random);
+        }
         match self.is_long || random.once_in(400) {
             true => long::call(random),
             false => any(random),
         }
+    }
+
+    /// The schedule with this number, for table and boards.
+    pub fn schedule(self, number: u64) -> Schedule {
+        schedule(&mut Random::numbered(self.seed, number))
+    }
+}
+
+/// A schedule, and what it begins with.
+pub struct Schedule {
+    pub wiring: usize,
+    pub n: Size,
+    pub table: Vec<u8>,
+    pub entries: Vec<[u8; 2]>,
+}
+
+fn of_one_board(random: &mut Random) -> Call {
+    let size = groups::random_size(random);
+    boards::call(random.pick(&Wiring::ALL), size, random)
+}
+
+/// A schedule on a valid table. A run takes most of its entries.
+fn schedule(random: &mut Random) -> Schedule {
+    let (wiring, n) = (random.pick(&Wiring::ALL), groups::random_size(random));
+    let table = tables::valid(wiring, n, random);
+    let bytes = schedules::given(wiring, n, &table, random);
+    let entries = bytes.as_chunks().0.to_vec();
+    let wiring = wiring.number();
+    Schedule {
+        wiring,
+        n,
+        table,
+        entries,
     }
 }
 

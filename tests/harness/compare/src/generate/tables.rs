@@ -51,7 +51,7 @@ pub fn damage_one(table: &mut [u8], size: Size, random: &mut Random) {
 }
 
 /// A table that refusals 1 to 4 do not meet.
-fn valid(wiring: Wiring, size: Size, random: &mut Random) -> Vec<u8> {
+pub fn valid(wiring: Wiring, size: Size, random: &mut Random) -> Vec<u8> {
     match random.below(8) {
         0 => fresh(size),
         1..=3 => after_a_run(wiring, size, random),
@@ -233,7 +233,7 @@ fn damage(table: &mut [u8], size: Size, random: &mut Random) {
 
 /// Changes one byte, often to the first value out of its range, or brings the
 /// next distance to a border.
-fn damage_line(line: &mut [u8], own: usize, size: Size, random: &mut Random) {
+pub fn damage_line(line: &mut [u8], own: usize, size: Size, random: &mut Random) {
     let column = HEAD + random.below(size);
     match random.below(12) {
         0 => line[STATUS] = random.pick(&[4, 5, 8, 128, 255]),

@@ -1,4 +1,4 @@
--- The station tested is one of the plant.
+-- The board tested is one of the plant.
 use Rattle.std.proofs.Common.{arith}
 use Rattle.table.specs.Wiring.{wiring_number}
 use Rattle.board.proofs.NextLaws.{next-station}
@@ -9,4 +9,4 @@ close_test-requires-clause-other c =
     let b = c.args.self in
     let m = c.next_test-m.ensures in
     rw (c.station_at.ensures, m)
-    (next-station (wiring_number b.wiring) b.n b.own.0 c.args.line.now c.requires.fits b.below (omega (arith, m, b.last_of_pass, c.if-self-m.false)))
+    (next-station (wiring_number b.wired.wiring) b.wired.n b.own.0 c.args.line.now c.requires.fits b.below (omega (arith, m, b.wired.last_of_pass, c.if-self-m.false)))

@@ -1,0 +1,6 @@
+-- The laws of the crate.
+pub mod Steps
+pub mod Rounds
+pub mod FirstTable
+pub mod BoardsDetect
+pub mod FreshBegin

@@ -1,0 +1,2 @@
+-- What the contracts of `board_detection` cite.
+pub mod Detect

@@ -1,0 +1,25 @@
+// What is claimed of detection by boards (specs/Detect.antt), each the contract of a function that does nothing.
+
+ghost use Rattle.detection.specs.Claim.{square_rounds, triangle_rounds, worst_rounds};
+ghost use Rattle.board_detection.specs.Detect.{BoardsDetect, FreshBoardsBegin};
+
+// After d·d closed rounds on the cube, n − 1 on the ring, each live board's line suspects just the boards that are not live, and the tests are
+// those counted.
+pub fn boards_detect_in_square()
+    ensures { BoardsDetect square_rounds }
+{}
+
+// The same within 1 + d(d − 1)/2 rounds on the cube, n − 1 on the ring.
+pub fn boards_detect_in_triangle()
+    ensures { BoardsDetect triangle_rounds }
+{}
+
+// The same within the worst-case latency on the cube, n/2 rounds on the ring.
+pub fn boards_detect_in_worst_case()
+    ensures { BoardsDetect worst_rounds }
+{}
+
+// Boards whose lines are fresh meet what is supposed of boards, on each wiring.
+pub fn fresh_boards_begin()
+    ensures { FreshBoardsBegin }
+{}

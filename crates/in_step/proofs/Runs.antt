@@ -1,0 +1,58 @@
+-- The entries that the master made are those of a run.
+-- Assumes nothing.
+use mathlib.Core.Path.{◌≡◌, refl, ap, ◌∙◌}
+use mathlib.Core.List.{List, [], ◌∷◌}
+use Prim.Native.Nat.{ℕ, zero, suc, ◌+◌, ◌*◌, ◌%◌, ◌≤◌}
+use native.Mathlib.Omega.{arith}
+use borrow.Author.Tests.{eq-eqb, ne_eqb}
+use lib.ListN.{length, take}
+use Rattle.table.specs.Rules.{numbered_table_refusal}
+use Rattle.lists.proofs.RefusalLaws.{check_zero}
+use Rattle.plant.specs.Entry.{Entry, State, after, sheet_line}
+use Rattle.plant.specs.Run.{RunResult, entries, write_line, go_on, start_check, start_refusal, run}
+use Rattle.in_step.specs.System.{after_all}
+use Rattle.in_step.specs.Claims.{schedule_of, IsRun}
+use Rattle.in_step.proofs.Entries.{Taken}
+
+entries-back : (es : List Entry) → entries (schedule_of es) ≡ es
+unfolding entries
+entries-back [] = refl
+entries-back (e ∷ es) = ap (λ (xs : List Entry). e ∷ xs) (entries-back es)
+
+schedule-length : (es : List Entry) → length (schedule_of es) ≡ 2 * length es
+schedule-length [] = refl
+schedule-length (e ∷ es) = omega (arith, schedule-length es)
+
+starts : (w n : ℕ) (t : List ℕ) (a b : ℕ) → numbered_table_refusal w n t ≡ 0 → a % 2 ≡ 0 → b ≡ 2 * a → start_refusal w n t a b ≡ 0
+unfolding start_check
+starts w n t a b z even twice = rw (check_zero _ z, even, eq-eqb b (2 * a) twice)
+
+module _ (w n : ℕ) where
+  goes : (k : ℕ) (s : State) (sheet : List ℕ) (es : List Entry) → Taken w n s es
+      → ((go_on w n k s sheet es).number ≡ 0)
+      × ((go_on w n k s sheet es).taken ≡ k + length es)
+      × ((go_on w n k s sheet es).state ≡ after_all w n s es)
+  unfolding go_on after_all
+  goes k s sheet [] t = (refl, omega arith, refl)
+  goes k s sheet (e ∷ es) t =
+      let rest = goes (suc k) (after w n s e) (write_line sheet k (sheet_line w n s e)) es t.1 in
+      rw t.0 (rest.0, omega (arith, rest.1), rest.2)
+
+  pub is-run : (s : State) (es : List Entry) (sheet : List ℕ) → numbered_table_refusal w n s.table ≡ 0 → Taken w n s es
+      → length sheet ≡ 4 * length es → IsRun w n s es sheet
+  unfolding run
+  is-run s es sheet z t long =
+      let even : length (schedule_of es) % 2 ≡ 0 = omega (arith, schedule-length es) in
+      let ok = starts w n s.table (length (schedule_of es)) (length sheet) z even (omega (arith, schedule-length es, long)) in
+      let r = goes 0 s sheet es t in
+      record {
+        number = rw (ok, entries-back es) r.0;
+        taken = rw (ok, entries-back es) (omega (arith, r.1));
+        state = rw (ok, entries-back es) r.2;
+      }
+
+  pub taken-take : (s : State) (es : List Entry) → Taken w n s es → (m : ℕ) → Taken w n s (take m es)
+  taken-take s [] t zero = tt
+  taken-take s [] t (suc m) = tt
+  taken-take s (e ∷ es) t zero = tt
+  taken-take s (e ∷ es) t (suc m) = (t.0, taken-take (after w n s e) es t.1 m)

@@ -1,0 +1,97 @@
+-- What may happen on a cable that loses, doubles and delays frames. A frame that is lost never comes, one that is doubled comes twice, and one that is
+-- late comes after others: so each frame that was sent may come at any time after that, to any board, as often as may be.
+-- Assumes nothing.
+use Rattle.std.specs.Prelude.{ℕ, suc, Bool, ◌&&◌, List, [], ◌∷◌, ◌++◌, length, Option, None, Some, is_none, slice_get, if◌then◌else◌, ◌==◌, nat_lt}
+use Rattle.table.specs.Table.{live}
+use Rattle.table.specs.Line.{row_of, is_live}
+use Rattle.station.specs.Outcome.{outcome_no_reply}
+use Rattle.plant.specs.Turn.{kind_turn, kind_late, kind_crash, turn_tested}
+use Rattle.plant.specs.Entry.{Entry, State, entry_of, entry_refusal}
+use Rattle.board.specs.Board.{tested, turn_of, outcome, round_closed}
+use Rattle.in_step.specs.System.{Board, Reply, End, System, after_all, table_at, Note, note_of, line_by}
+
+-- the system with board k become b
+abbrev pub with_board : System → ℕ → Board → System
+with_board y k b = record y { boards = λ i. if i == k then b else y.boards i }
+
+-- Rules Answers in step and Silent: board j replies to a test of the turn that follows the entries in force at it, if it is live. Nothing else changes
+unfoldable pub reply_sent : ℕ → System → ℕ → ℕ → System
+reply_sent n y j turn =
+    let b = y.boards j in
+    if nat_lt j n && is_live b.line && turn == suc b.in_force
+    then record y { replies = (record { turn = turn; from = j; row = row_of n b.line }) ∷ y.replies } else y
+
+-- Rule Board's turn: with the row replied, or none, board i computes its line aside, and sends how its turn ended. It does so once: not again until
+-- the next entry is in force at it. That it was granted the turn, and is live, is not asked: the master takes no end of another board
+unfoldable pub turn_made : ℕ → ℕ → System → ℕ → Option (List ℕ) → System
+turn_made w n y i reply =
+    let b = y.boards i in
+    let x : End = record { turn = suc b.in_force; from = i; outcome = outcome w n i b.line reply; row = row_of n b.line } in
+    if is_none b.aside
+    then with_board (record y { ends = x ∷ y.ends }) i (record b { aside = Some (turn_of w n i b.line reply) }) else y
+
+-- a reply is taken if it is one to the test of this turn, from the board that is tested in it. Any other is thrown away
+unfoldable pub reply_heard : ℕ → ℕ → System → ℕ → Option Reply → System
+reply_heard w n y i None = y
+reply_heard w n y i (Some r) =
+    let b = y.boards i in
+    if r.turn == suc b.in_force && r.from == tested w n i b.line then turn_made w n y i (Some r.row) else y
+
+-- the master makes an entry, if a run would take it
+unfoldable pub entry_made : ℕ → ℕ → State → System → Entry → System
+entry_made w n s y e =
+    if entry_refusal n (after_all w n s y.entries) e == 0 then record y { entries = y.entries ++ (e ∷ []) } else y
+
+-- Rule Kinds: it makes a turn one whose reply came late, if the tester got none though the board tested is live in the master's table t
+abbrev pub entry_by : ℕ → ℕ → List ℕ → End → Entry
+entry_by w n t x = entry_of (if x.outcome == outcome_no_reply && live n t (turn_tested w n t x.from) then kind_late else kind_turn) x.from
+
+-- it takes an end of the turn that follows its entries, and no other
+unfoldable pub end_heard : ℕ → ℕ → State → System → Option End → System
+end_heard w n s y None = y
+end_heard w n s y (Some x) =
+    if x.turn == suc (length y.entries) then entry_made w n s y (entry_by w n (after_all w n s y.entries).table x) else y
+
+-- the entry of the note is in force at board k, with the line that it made of it, closed if the entry closed the round; and the turn that the board
+-- made, if any, is over. If it could make none, nothing is done
+unfoldable pub put_in_force : System → ℕ → Note → Option (List ℕ) → System
+put_in_force y k note None = y
+put_in_force y k note (Some l) =
+    let b = y.boards k in
+    with_board y k (record { in_force = suc b.in_force; line = if note.closed then round_closed l else l; aside = None })
+
+-- the note of entry m, from 0, is taken if that is the board's next entry. Any other note does nothing
+unfoldable pub note_heard : ℕ → ℕ → State → System → ℕ → ℕ → Option Entry → Option End → System
+note_heard w n s y k m None heard = y
+note_heard w n s y k m (Some e) heard =
+    let b = y.boards k in
+    let note : Note = note_of w n (table_at w n s y.entries m) e in
+    if m == b.in_force then put_in_force y k note (line_by n k b note heard) else y
+
+-- what may happen
+pub data Happening : Type 0 where
+  -- a test of a turn comes to board j: the board, and the number of the turn
+  test_comes : ℕ → ℕ → Happening
+  -- a reply comes to board i: the board, and which of the replies that were sent
+  reply_comes : ℕ → ℕ → Happening
+  -- board i has waited for its reply, and none came; or it has no test to make
+  none_comes : ℕ → Happening
+  -- an end comes to the master: which of those that were sent
+  end_comes : ℕ → Happening
+  -- the master holds board i for crashed
+  crash_found : ℕ → Happening
+  -- the note of an entry comes to board k: the board, the number of the entry, from 0, and which of the ends that were sent k has heard
+  note_comes : ℕ → ℕ → ℕ → Happening
+
+abbrev pub after_happening : ℕ → ℕ → State → System → Happening → System
+after_happening w n s y (test_comes j turn) = reply_sent n y j turn
+after_happening w n s y (reply_comes i x) = reply_heard w n y i (slice_get y.replies x)
+after_happening w n s y (none_comes i) = turn_made w n y i None
+after_happening w n s y (end_comes x) = end_heard w n s y (slice_get y.ends x)
+after_happening w n s y (crash_found i) = entry_made w n s y (entry_of kind_crash i)
+after_happening w n s y (note_comes k m x) = note_heard w n s y k m (slice_get y.entries m) (slice_get y.ends x)
+
+-- and all of a list, one after the other
+unfoldable pub after_happenings : ℕ → ℕ → State → System → List Happening → System
+after_happenings w n s y [] = y
+after_happenings w n s y (h ∷ hs) = after_happenings w n s (after_happening w n s y h) hs

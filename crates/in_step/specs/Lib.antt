@@ -1,0 +1,4 @@
+-- What the contracts of `in_step` cite: the boards and the cable, what may happen, and what is claimed.
+pub mod System
+pub mod Happenings
+pub mod Claims

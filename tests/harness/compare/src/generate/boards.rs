@@ -1,0 +1,249 @@
+//! Calls of a board. Its line is one of a table, and what it hears is mostly the row of another line of that table.
+
+use shared::random::Random;
+use shared::table::{line_length, live_stations, unfinished_stations, HEAD};
+use shared::wiring::Wiring;
+use simulator::{board_next, Given};
+
+use super::plants::wiring_number;
+use super::{lines, numbers, place, tables, Size};
+use crate::call::{size, Call};
+
+/// Bits of a byte.
+const BITS: usize = 8;
+
+pub fn call(wiring: Wiring, n: Size, random: &mut Random) -> Call {
+    let table = tables::valid(wiring, n, random);
+    let own = board_of(n, &table, random);
+    let line = line_of(own, n, &table, random);
+    let given = Given {
+        wiring: wiring.number(),
+        n,
+        own: own as u8,
+    };
+    let tested = usize::from(board_next(given, &line).1);
+    let other = (own + random.between(1, n - 1)) % n;
+    let [wiring, asked, own_given, line] = arguments(given, line, random);
+    match random.below(21) {
+        0 | 20 => Call::new("vcube_board_fresh", [wiring, asked, own_given, line]),
+        1 | 2 => Call::new(
+            "vcube_board_next",
+            [wiring, asked, own_given, line, place(random)],
+        ),
+        3 | 4 => {
+            let length = packed_length(n, random);
+            Call::new(
+                "vcube_board_row",
+                [wiring, asked, own_given, line, random.bytes(length)],
+            )
+        }
+        5..=10 => {
+            let reply = heard(own, tested.min(n - 1), n, &table, random);
+            Call::new(
+                "vcube_board_replied",
+                [wiring, asked, own_given, line, reply, place(random)],
+            )
+        }
+        11 | 12 => Call::new(
+            "vcube_board_not_replied",
+            [wiring, asked, own_given, line, place(random)],
+        ),
+        13 | 14 => Call::new(
+            "vcube_board_told",
+            [
+                wiring,
+                asked,
+                own_given,
+                line,
+                sender(own, other, n, random),
+            ],
+        ),
+        15..=17 => {
+            let row = heard(own, other, n, &table, random);
+            let from = sender(own, other, n, random);
+            Call::new(
+                "vcube_board_exchanged",
+                [wiring, asked, own_given, line, from, row],
+            )
+        }
+        _ => Call::new("vcube_board_round_closed", [wiring, asked, own_given, line]),
+    }
+}
+
+/// Mostly one that can take a turn, if there is one.
+fn board_of(n: Size, table: &[u8], random: &mut Random) -> usize {
+    let likely = match random.below(12) {
+        0 | 1 => Vec::new(),
+        2 => live_stations(n, table),
+        _ => unfinished_stations(n, table),
+    };
+    match likely.is_empty() {
+        true => random.below(n),
+        false => random.pick(&likely),
+    }
+}
+
+/// Its line in the table. Now and then it suspects all others, or all but one, or some of its bytes are others.
+fn line_of(own: usize, n: Size, table: &[u8], random: &mut Random) -> Vec<u8> {
+    let mut line = table[own * line_length(n)..][..line_length(n)].to_vec();
+    if random.once_in(8) {
+        line[HEAD..].fill(1);
+        line[HEAD + own] = 0;
+        if random.once_in(2) {
+            line[HEAD + random.below(n)] = 0;
+        }
+    }
+    match random.below(24) {
+        0..=2 => tables::damage_line(&mut line, own, n, random),
+        3 => lines::break_line(&mut line, own, n, random),
+        4 => line[HEAD + own] = 1,
+        _ => {}
+    }
+    line
+}
+
+/// Wiring, size, board and line, of which now and then one is wrong.
+fn arguments(given: Given, mut line: Vec<u8>, random: &mut Random) -> [Vec<u8>; 4] {
+    let (n, own) = (given.n, usize::from(given.own));
+    let wiring = match given.wiring {
+        1 => Wiring::Cube,
+        _ => Wiring::Ring,
+    };
+    let asked = numbers::given_size(n, random);
+    let board = match random.once_in(16) {
+        true => numbers::station(n, random),
+        false => own,
+    };
+    let right = match asked < BITS * BITS && random.once_in(2) {
+        true => line_length(asked),
+        false => line_length(n),
+    };
+    let length = match random.below(60) {
+        0 => right - 1,
+        1 => right + 1,
+        // Without its head.
+        2 => n,
+        _ => numbers::length(right, random),
+    };
+    tables::resize(&mut line, length, random);
+    [
+        wiring_number(wiring, random),
+        size(asked),
+        size(board),
+        line,
+    ]
+}
+
+/// The other station, or now and then a number that no other has.
+fn sender(own: usize, other: usize, n: Size, random: &mut Random) -> Vec<u8> {
+    size(match random.below(10) {
+        0 => own,
+        1 => numbers::station(n, random),
+        2 => numbers::alias(other, random),
+        _ => other,
+    })
+}
+
+/// The length of a packed row: mostly the right one.
+fn packed_length(n: Size, random: &mut Random) -> usize {
+    let right = n.div_ceil(BITS);
+    match random.below(60) {
+        0 => right - 1,
+        1 => right + 1,
+        2 => n / BITS,
+        3 => n / BITS + 1,
+        // For 64 boards.
+        4 => BITS,
+        // A byte for each board.
+        5 => n,
+        _ => numbers::length(right, random),
+    }
+}
+
+/// The packed row of a station of the table, mostly with some bits changed, or any bytes.
+fn heard(own: usize, from: usize, n: Size, table: &[u8], random: &mut Random) -> Vec<u8> {
+    let row = &table[from * line_length(n) + HEAD..][..n];
+    let mut packed = vec![0; n.div_ceil(BITS)];
+    for (k, byte) in row.iter().enumerate() {
+        packed[k / BITS] |= byte << (k % BITS);
+    }
+    let mut put = |board: usize, bit: u8| {
+        packed[board / BITS] &= !(1 << (board % BITS));
+        packed[board / BITS] |= bit << (board % BITS);
+    };
+    if random.once_in(3) {
+        put(own, random.below(3) as u8 / 2);
+    }
+    if random.once_in(3) {
+        put(from, 1);
+    }
+    if random.once_in(3) && n % BITS != 0 {
+        packed[n / BITS] |= random.byte() << (n % BITS);
+    }
+    if random.once_in(8) {
+        packed = random.bytes(packed.len());
+    }
+    let length = packed_length(n, random);
+    tables::resize(&mut packed, length, random);
+    packed
+}
+
+#[cfg(test)]
+mod tests {
+    use std::collections::BTreeSet;
+
+    use shared::groups;
+
+    use super::*;
+    use crate::answer::answer;
+    use crate::call::number;
+
+    /// The refusals of each call, as docs/RULES.md lists them, and 0.
+    const NUMBERS: [(&str, &[u8]); 8] = [
+        ("vcube_board_fresh", &[0, 1, 9, 24, 25]),
+        ("vcube_board_next", &[0, 1, 3, 9, 10, 11, 24, 25]),
+        ("vcube_board_row", &[0, 1, 3, 9, 10, 13, 24, 25]),
+        ("vcube_board_replied", &[0, 1, 3, 9, 10, 11, 13, 24, 25]),
+        ("vcube_board_not_replied", &[0, 1, 3, 9, 10, 11, 24, 25]),
+        ("vcube_board_told", &[0, 1, 3, 9, 10, 24, 25]),
+        ("vcube_board_exchanged", &[0, 1, 3, 9, 10, 13, 24, 25]),
+        ("vcube_board_round_closed", &[0, 1, 3, 9, 24, 25]),
+    ];
+
+    /// Statuses and outcomes of a turn that is taken: a board that is told leaves, one that comes to be alone too.
+    const TURNS: [(&str, &[(u8, u64)]); 2] = [
+        (
+            "vcube_board_replied",
+            &[(0, 0), (0, 1), (0, 5), (2, 2), (3, 5)],
+        ),
+        ("vcube_board_not_replied", &[(0, 0), (0, 3), (3, 3)]),
+    ];
+
+    #[test]
+    fn all_refusals_and_outcomes_come() {
+        let (mut numbers, mut turns) = (BTreeSet::new(), BTreeSet::new());
+        for k in 0..15_000 {
+            let random = &mut Random::numbered(1, k);
+            let n = groups::random_size(random);
+            let call = call(random.pick(&Wiring::ALL), n, random);
+            let (name, answer) = (call.function.name, answer(&call));
+            numbers.insert((name, answer.number));
+            if answer.number == 0 && TURNS.iter().any(|(of_turn, _)| *of_turn == name) {
+                let (wiring, outcome) = (&call.arguments[0], answer.arguments.last().unwrap());
+                let status = answer.arguments[3][0];
+                turns.insert((name, number(wiring), status, number(outcome)));
+            }
+        }
+        let listed = NUMBERS
+            .iter()
+            .flat_map(|(name, listed)| listed.iter().map(|k| (*name, *k)));
+        assert_eq!(numbers, listed.collect());
+        let of_wiring = |wiring| {
+            let turns = TURNS
+                .iter()
+                .flat_map(|(name, listed)| listed.iter().map(|turn| (*name, *turn)));
+            turns.map(move |(name, (status, outcome))| (name, wiring, status, outcome))
+        };
+        assert_eq!(turns, of_wiring(1).chain(of_wiring(2)).collect());
+    }
+}
