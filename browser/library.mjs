@@ -113,12 +113,11 @@ export class Library {
         [state.rounds, state.tests] = [rounds.value, tests.value];
     }
 
-    /// A board's row as it goes over the cable, by its line of the table. Nothing if the board is not live: it sends nothing.
+    /// The row of a live board as it goes over the cable, by its line of the table.
     packed_row(state, board) {
         const packed = new Uint8Array((state.n + 7) >> 3);
-        const line = own_line(state, board);
-        const refused = this.module.call('vcube_board_row', BigInt(state.wiring), BigInt(state.n), BigInt(board), line, packed);
-        return refused === 0 ? packed : undefined;
+        this.module.call('vcube_board_row', BigInt(state.wiring), BigInt(state.n), BigInt(board), own_line(state, board), packed);
+        return packed;
     }
 
     grant(state, last) {

@@ -4,8 +4,8 @@ import { make } from './elements.mjs';
 import { mentioned } from './names.mjs';
 import { suspected_by } from './tables.mjs';
 
-/// The messages of the entry before the moment, in their order: what each is, from whom to whom, and whose row it brings, if any. A closing is told to
-/// all, and has neither.
+/// The messages of the entry before the moment, in their order: what each is, from whom to whom, and whether it brings its sender's row. A closing
+/// is told to all boards.
 export function messages(plant) {
     if (plant.at === 0) return [];
     const { board, line } = plant.entries[plant.at - 1];
@@ -44,7 +44,8 @@ export class Messages {
         const row = others.length === 0 ? 'suspects nobody' : `suspects ${others.join(', ')}`;
         const item = make('li', { textContent: `${who}, ${row}` });
         const packed = plant.library.packed_row(plant.before, from);
-        if (packed) item.append(' ', make('span', { className: 'bytes', textContent: `(${packed.length === 1 ? 'byte' : 'bytes'} ${in_hex(packed)})` }));
+        const bytes = packed.length === 1 ? 'byte' : 'bytes';
+        item.append(' ', make('span', { className: 'bytes', textContent: `(${bytes} ${in_hex(packed)})` }));
         return item;
     }
 }

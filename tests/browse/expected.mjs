@@ -135,8 +135,8 @@ function packed(row) {
     return bytes.map((byte) => byte.toString(16).padStart(2, '0')).join(' ');
 }
 
-/// The messages of an entry: from whom, to whom, what, and of a row whom it suspects and its bytes. A row is that of the plant saved before the entry;
-/// where there is none, it is left out.
+/// The messages of an entry: from whom, to whom, what, and of a row whom it suspects and its bytes. A row is that of the plant saved before the
+/// entry; where there is none, it is left out.
 function sent([board, tested, outcome], closes, saved) {
     const ends = [board, tested];
     const back = [tested, board];

@@ -50,7 +50,8 @@ const reader = `
     window.messages = () => {
         const texts = [...document.querySelectorAll('#messages li')].filter((item) => item.checkVisibility()).map((item) => item.textContent);
         if (texts.length > 0 === document.getElementById('no-messages').checkVisibility()) texts.push('messages, and that there are none');
-        const form = /^([0-9]+)(?: [(].*?[)])? to ([0-9]+)(?: [(].*?[)])?: ([a-z]+)(?:, suspects (.*) [(]bytes? ([0-9a-f ]+)[)])?$/;
+        const board = '([0-9]+)(?: [(].*?[)])?';
+        const form = new RegExp('^' + board + ' to ' + board + ': ([a-z]+)(?:, suspects (.*) [(]bytes? ([0-9a-f ]+)[)])?$');
         return texts.map((text) => {
             if (text === 'To all: round closed') return ['all', 'round closed'];
             return form.exec(text)?.slice(1).filter((part) => part !== undefined) ?? text;
