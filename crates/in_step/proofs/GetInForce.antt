@@ -277,11 +277,12 @@ module _ (w n : ℕ) (s : State) (a : Accepted w n s.table) where
       unfolding Makes after_happenings
       none-makes o ans k =
           let says : tester_answer w n own mine.line None ≡ Ok o = ap (λ (l : List ℕ). tester_answer w n own l None) (line-now own facts.below) ∙ ans in
-          let q : entry_of (kind_by o (live n t j)) own ≡ e = ap (λ (k : ℕ). entry_of k own) k in
-          (none_comes own ∷ end_comes 0 ∷ [],
-          subst (λ (u : System). MadeIn y e (after_happenings w n s u (end_comes 0 ∷ []))) (sym (turn-gives y e v.levels ok None o says))
-          (subst (MadeIn y e) (sym (end-gives y e v.levels ok None o says q))
-          (record { entries = refl; noted = entered-noted y e v.levels ok None o says })))
+          let q : entry_of (kind_by o (live n t j)) own ≡ e = ap (λ (k : ℕ). entry_of k own) k in (
+            none_comes own ∷ end_comes 0 ∷ [],
+            subst (λ (u : System). MadeIn y e (after_happenings w n s u (end_comes 0 ∷ []))) (sym (turn-gives y e v.levels ok None o says))
+                (subst (MadeIn y e) (sym (end-gives y e v.levels ok None o says q))
+                (record { entries = refl; noted = entered-noted y e v.levels ok None o says })),
+          )
 
       -- a test, and the reply to it
       abbrev r : Reply
@@ -299,8 +300,10 @@ module _ (w n : ℕ) (s : State) (a : Accepted w n s.table) where
       reply-gives : j ≡ named (next_answer w n own mine.line) → reply_heard w n tried own (Some r) ≡ turn_made w n tried own (Some r.packed)
       unfolding reply_heard
       reply-gives is =
-          rw (eq-eqb (suc (length y.entries)) (suc mine.in_force) (ap suc (sym (v.levels own facts.below).0)),
-          eq-eqb j (named (next_answer w n own mine.line)) is)
+          rw (
+            eq-eqb (suc (length y.entries)) (suc mine.in_force) (ap suc (sym (v.levels own facts.below).0)),
+            eq-eqb j (named (next_answer w n own mine.line)) is,
+          )
           refl
 
       row-makes : j < n → live n t j ≡ true → makes_test w n t own ≡ true → (o : ℕ)
@@ -315,13 +318,14 @@ module _ (w n : ℕ) (s : State) (a : Accepted w n s.table) where
           let is : j ≡ named (next_answer w n own mine.line) =
           sym (names w n t accepted-now own facts.below facts.is_live going m)
           ∙ ap (λ (l : List ℕ). named (next_answer w n own l)) (sym (line-now own facts.below)) in
-          let q : entry_of (kind_by o (live n t j)) own ≡ e = ap (λ (k : ℕ). entry_of k own) k in
-          (test_comes j (suc (length y.entries)) ∷ reply_comes own 0 ∷ end_comes 0 ∷ [],
-          subst (λ (u : System). MadeIn y e (after_happenings w n s (reply_heard w n u own (slice_get u.replies 0)) (end_comes 0 ∷ []))) (sym (test-gives hj l))
-          (subst (λ (u : System). MadeIn y e (after_happenings w n s u (end_comes 0 ∷ []))) (sym (reply-gives is))
-          (subst (λ (u : System). MadeIn y e (after_happenings w n s u (end_comes 0 ∷ []))) (sym (turn-gives tried e v.levels ok (Some r.packed) o says))
-          (subst (MadeIn y e) (sym (end-gives tried e v.levels ok (Some r.packed) o says q))
-          (record { entries = refl; noted = entered-noted tried e v.levels ok (Some r.packed) o says })))))
+          let q : entry_of (kind_by o (live n t j)) own ≡ e = ap (λ (k : ℕ). entry_of k own) k in (
+            test_comes j (suc (length y.entries)) ∷ reply_comes own 0 ∷ end_comes 0 ∷ [],
+            subst (λ (u : System). MadeIn y e (after_happenings w n s (reply_heard w n u own (slice_get u.replies 0)) (end_comes 0 ∷ []))) (sym (test-gives hj l))
+                (subst (λ (u : System). MadeIn y e (after_happenings w n s u (end_comes 0 ∷ []))) (sym (reply-gives is))
+                (subst (λ (u : System). MadeIn y e (after_happenings w n s u (end_comes 0 ∷ []))) (sym (turn-gives tried e v.levels ok (Some r.packed) o says))
+                (subst (MadeIn y e) (sym (end-gives tried e v.levels ok (Some r.packed) o says q))
+                (record { entries = refl; noted = entered-noted tried e v.levels ok (Some r.packed) o says })))),
+          )
 
       -- the turn is made, with the kind of the entry
       turn-makes : (e.kind ≡ 2 → (is_test w n t e ≡ true) × (live n t (tested_of w n t e) ≡ true)) → Makes y e

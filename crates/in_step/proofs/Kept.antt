@@ -214,17 +214,20 @@ module _ (w n : ℕ) (s : State) (a : Accepted w n s.table) where
       let fits = h.boards j low in
       let turn = eqb-true number (suc b.in_force) p.1 in
       rw q
-      (replied y (record { turn = number; from = j; packed = row_from w n j b.line }) h
-      (low, λ e z.
-      let same : b.in_force ≡ e = omega (arith, turn, z) in
-      let t : List ℕ = T y.entries b.in_force in
-      let lives : live n t j ≡ true = sym (live-line n t j) ∙ (sym (ap is_live fits.1) ∙ r.1) in
-      (omega (arith, fits.0, same),
-      subst (λ (e : ℕ). ReplyOn n (T y.entries e) (record { turn = number; from = j; packed = row_from w n j b.line })) same
-      (record {
-        packed = ap (row_from w n j) fits.1 ∙ row-written w n t (accepted-at w n s y.entries a h.taken b.in_force) j low lives;
-        is_live = lives;
-      })))))
+      (replied y (record { turn = number; from = j; packed = row_from w n j b.line }) h (
+        low,
+        λ e z.
+            let same : b.in_force ≡ e = omega (arith, turn, z) in
+            let t : List ℕ = T y.entries b.in_force in
+            let lives : live n t j ≡ true = sym (live-line n t j) ∙ (sym (ap is_live fits.1) ∙ r.1) in (
+              omega (arith, fits.0, same),
+              subst (λ (e : ℕ). ReplyOn n (T y.entries e) (record { turn = number; from = j; packed = row_from w n j b.line })) same
+                  (record {
+                    packed = ap (row_from w n j) fits.1 ∙ row-written w n t (accepted-at w n s y.entries a h.taken b.in_force) j low lives;
+                    is_live = lives;
+                  }),
+            ),
+      )))
       (λ q. rw q h)
 
   -- a turn is made
@@ -247,18 +250,19 @@ module _ (w n : ℕ) (s : State) (a : Accepted w n s.table) where
       unfolding GoodEnd Fits
       good-end low e q =
           let fits = h.boards i low in
-          let same : b.in_force ≡ e = omega (arith, q) in
-          (omega (arith, fits.0, same),
-          rw (eq-eqb i i refl)
-          (subst (λ (e : ℕ). EndOn w n (T y.entries e) b' x e) same
-          (record {
-            reached = omega arith;
-            reply = reply;
-            heard = heard low;
-            says = ap (λ (l : List ℕ). tester_answer w n i l reply) (sym fits.1) ∙ says;
-            packed = ap (row_from w n i) fits.1;
-            aside = λ _. ap (λ (l : List ℕ). Some (tester_after w n i l reply)) fits.1;
-          })))
+          let same : b.in_force ≡ e = omega (arith, q) in (
+            omega (arith, fits.0, same),
+            rw (eq-eqb i i refl)
+                (subst (λ (e : ℕ). EndOn w n (T y.entries e) b' x e) same
+                (record {
+                  reached = omega arith;
+                  reply = reply;
+                  heard = heard low;
+                  says = ap (λ (l : List ℕ). tester_answer w n i l reply) (sym fits.1) ∙ says;
+                  packed = ap (row_from w n i) fits.1;
+                  aside = λ _. ap (λ (l : List ℕ). Some (tester_after w n i l reply)) fits.1;
+                })),
+          )
 
       ended-kept : is_none b.aside ≡ true → Holds (turn_ended w n y i mine (Ok o))
       unfolding turn_ended Fits
