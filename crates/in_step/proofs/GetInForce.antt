@@ -11,24 +11,29 @@ use borrow.Author.Tests.{eqb-true, eqb-false, eq-eqb, ne_eqb, lt-ltb}
 use lib.Dec.{eqb}
 use lib.ListN.{length, set, length-append}
 use lib.Seq.{take-length}
-use Rattle.std.specs.Prelude.{Option, None, Some, slice_get}
+use Rattle.std.specs.Prelude.{Option, None, Some, Result, Ok, slice_get}
 use Rattle.lists.proofs.BoolLaws.{by_bool}
-use Rattle.table.specs.Table.{live, status_column, status_crashed}
+use Rattle.table.specs.Table.{finished, live, status_column, status_crashed}
 use Rattle.table.specs.Line.{line, row_of, is_live}
+use Rattle.table.specs.Rules.{numbered_table_refusal}
 use Rattle.table.proofs.Accepting.{Accepted, accepted}
-use Rattle.plant.specs.Turn.{makes_test, turn_tested}
+use Rattle.plant.specs.Turn.{makes_test, turn_tested, turn_outcome}
 use Rattle.plant.specs.Entry.{Entry, State, entry_of, is_crash, is_test, entry_refusal, after, tested_of}
 use Rattle.plant.specs.Entry.{outcome_of as entry_outcome}
 use Rattle.plant.proofs.RulesKept.{Takes, entry-facts}
-use Rattle.cable.proofs.TurnByLines.{tests-line, tested-is, tested-below}
-use Rattle.board.specs.Board.{tests, tested, turn_of, outcome, joined, left_told, round_closed}
+use Rattle.cable.proofs.TurnByLines.{tested-below}
+use Rattle.board.specs.Packed.{pack}
+use Rattle.board.specs.Calls.{next_answer, told_after, exchanged_after, closed_after}
+use Rattle.cable.specs.Boards.{row_from, named, tester_after, tester_answer}
+use Rattle.cable.proofs.CallsOnCable.{answers, idle-answers}
+use Rattle.plant.proofs.RunLaws.{accepted-number}
 use Rattle.in_step.specs.System.{Board, Reply, End, System, start, after_all, table_at, Note, note_of, row_heard, own_line, tested_line, line_by}
-use Rattle.in_step.specs.Happenings.{with_board, reply_sent, turn_made, reply_heard, entry_made, entry_by, end_heard, put_in_force, note_heard, Happening, after_happening, after_happenings}
+use Rattle.in_step.specs.Happenings.{with_board, reply_sent, turn_ended, turn_made, reply_heard, entry_made, entry_by, end_heard, put_in_force, note_heard, Happening, after_happening, after_happenings}
 use Rattle.in_step.specs.Happenings.Happening.{test_comes, reply_comes, none_comes, end_comes, crash_found, note_comes}
 use Rattle.in_step.specs.InForce.{AsMade, EntriesGetInForce}
 use Rattle.in_step.proofs.Entries.{after_all-snoc}
 use Rattle.in_step.proofs.Kept.{Fits, Holds, first, all-kept, accepted-all}
-use Rattle.in_step.proofs.TurnHeard.{live-line, none-outcome, row-outcome, pass-outcome}
+use Rattle.in_step.proofs.TurnHeard.{live-line, row-written, kind_by, none-comes, row-comes, none-number, row-number, pass-number, names}
 
 -- one list of happenings after another
 after-append : (w n : ℕ) (s : State) (y : System) (hs gs : List Happening)
@@ -42,14 +47,14 @@ get-last [] x = refl
 get-last (a ∷ xs) x = get-last xs x
 
 -- a board that has what it needs can put the entry in force
-module _ (n k : ℕ) (b : Board) (note : Note) (heard : Option End) where
-  row-some : (x : End) → heard ≡ Some x → x.turn ≡ suc b.in_force → x.from ≡ note.entry.station → row_heard b note.entry.station heard ≡ Some x.row
+module _ (w n k : ℕ) (b : Board) (note : Note) (heard : Option End) where
+  row-some : (x : End) → heard ≡ Some x → x.turn ≡ suc b.in_force → x.from ≡ note.entry.station → row_heard b note.entry.station heard ≡ Some x.packed
   unfolding row_heard
   row-some x h turn from = rw (h, eq-eqb x.turn (suc b.in_force) turn, eq-eqb x.from note.entry.station from) refl
 
   line-some : (k ≡ note.entry.station → (l : List ℕ) × (own_line b note ≡ Some l))
       → (note.outcome ≡ 1 → (r : List ℕ) × (row_heard b note.entry.station heard ≡ Some r))
-      → (l : List ℕ) × (line_by n k b note heard ≡ Some l)
+      → (l : List ℕ) × (line_by w n k b note heard ≡ Some l)
   unfolding line_by tested_line
   line-some own row =
       by_bool (eqb k note.entry.station)
@@ -58,10 +63,10 @@ module _ (n k : ℕ) (b : Board) (note : Note) (heard : Option End) where
       by_bool (eqb k note.tested)
       (λ p.
       by_bool (eqb note.outcome 5)
-      (λ x. (left_told b.line note.entry.station, rw (q, p, x) refl))
+      (λ x. (told_after w n k b.line note.entry.station, rw (q, p, x) refl))
       (λ x.
       by_bool (eqb note.outcome 1)
-      (λ y. let r = row (eqb-true note.outcome 1 y) in (joined n k b.line r.0, rw (q, p, x, y, r.1) refl))
+      (λ y. let r = row (eqb-true note.outcome 1 y) in (exchanged_after w n k b.line note.entry.station r.0, rw (q, p, x, y, r.1) refl))
       (λ y. (b.line, rw (q, p, x, y) refl))))
       (λ p. (b.line, rw (q, p) refl)))
 
@@ -106,13 +111,13 @@ module _ (w n : ℕ) (s : State) (a : Accepted w n s.table) where
         (λ c. let z : ◌≡◌ {A = ℕ} 4 1 = rw c at o in absurd (omega arith))
         (λ c.
         let x = h.end c in
-        (x.0.row, row-some n k b note (slice_get y.ends 0) x.0 x.1 (x.2 ∙ sym (ap suc now)) x.3))
+        (x.0.packed, row-some w n k b note (slice_get y.ends 0) x.0 x.1 (x.2 ∙ sym (ap suc now)) x.3))
 
-    made : (l : List ℕ) × (line_by n k b note (slice_get y.ends 0) ≡ Some l)
-    made = line-some n k b note (slice_get y.ends 0) own-some heard-some
+    made : (l : List ℕ) × (line_by w n k b note (slice_get y.ends 0) ≡ Some l)
+    made = line-some w n k b note (slice_get y.ends 0) own-some heard-some
 
     abbrev b' : Board
-    b' = record { in_force = suc b.in_force; line = cond note.closed (round_closed made.0) made.0; aside = None }
+    b' = record { in_force = suc b.in_force; line = cond note.closed (closed_after w n k made.0) made.0; aside = None }
 
     note-gives : after_happening w n s y (note_comes k m 0) ≡ with_board y k b'
     unfolding note_heard put_in_force
@@ -163,7 +168,8 @@ module _ (w n : ℕ) (s : State) (a : Accepted w n s.table) where
 
   -- a turn of board i, with the reply that it heard, and its end: entry e comes of it
   module _ (y : System) (e : Entry) (levels : (k : ℕ) → k < n → ((y.boards k).in_force ≡ length y.entries) × ((y.boards k).aside ≡ None))
-      (ok : entry_refusal n (after_all w n s y.entries) e ≡ 0) (reply : Option (List ℕ)) where
+      (ok : entry_refusal n (after_all w n s y.entries) e ≡ 0) (reply : Option (List ℕ)) (o : ℕ)
+      (says : tester_answer w n e.station (y.boards e.station).line reply ≡ Ok o) where
     abbrev i : ℕ
     i = e.station
 
@@ -171,10 +177,10 @@ module _ (w n : ℕ) (s : State) (a : Accepted w n s.table) where
     c = y.boards i
 
     abbrev c' : Board
-    c' = record c { aside = Some (turn_of w n i c.line reply) }
+    c' = record c { aside = Some (tester_after w n i c.line reply) }
 
     abbrev x : End
-    x = record { turn = suc c.in_force; from = i; outcome = outcome w n i c.line reply; row = row_of n c.line }
+    x = record { turn = suc c.in_force; from = i; outcome = o; packed = row_from w n i c.line }
 
     abbrev turned : System
     turned = with_board (record y { ends = x ∷ y.ends }) i c'
@@ -186,8 +192,8 @@ module _ (w n : ℕ) (s : State) (a : Accepted w n s.table) where
     below = (entry-facts n (after_all w n s y.entries) e ok).below
 
     turn-gives : turn_made w n y i reply ≡ turned
-    unfolding turn_made
-    turn-gives = rw (levels i below).1 refl
+    unfolding turn_made turn_ended
+    turn-gives = rw ((levels i below).1, says) refl
 
     end-gives : entry_by w n (after_all w n s y.entries).table x ≡ e → after_happenings w n s turned (end_comes 0 ∷ []) ≡ entered
     unfolding after_happenings end_heard
@@ -199,7 +205,7 @@ module _ (w n : ℕ) (s : State) (a : Accepted w n s.table) where
       stands = get-last y.entries e;
       before = λ k hk. absurd (omega arith);
       behind = λ k hk hn. by_bool (eqb k i) (λ q. rw q (levels i below).0) (λ q. rw q (levels k hn).0);
-      own = λ _ _. (turn_of w n i c.line reply, rw (eq-eqb i i refl) refl);
+      own = λ _ _. (tester_after w n i c.line reply, rw (eq-eqb i i refl) refl);
       end = λ _. (x, refl, ap suc (levels i below).0, refl);
     }
 
@@ -252,95 +258,110 @@ module _ (w n : ℕ) (s : State) (a : Accepted w n s.table) where
         ∙ ap (λ (m : ℕ). line n (table_at w n s y.entries m) k) (v.levels k hk).0
         ∙ ap (λ (es : List Entry). line n (after_all w n s es).table k) (take-length y.entries)
 
-    tests-now : tests w n e.station mine.line ≡ makes_test w n t e.station
-    tests-now = ap (tests w n e.station) (line-now e.station facts.below) ∙ tests-line n t e.station accepted-now.long facts.below w
+    -- the call of the entry's board, on its line of the table
+    module _ (c : is_crash e ≡ false) where
+      abbrev own : ℕ
+      own = e.station
 
-    tested-now : turn_tested w n t e.station ≡ tested w n e.station mine.line
-    tested-now =
-        tested-is n t e.station accepted-now.long facts.below w ∙ ap (tested w n e.station) (sym (line-now e.station facts.below))
+      abbrev j : ℕ
+      j = turn_tested w n t own
 
-    -- a test, and the reply to it
-    test-gives : (j : ℕ) → j < n → live n t j ≡ true
-        → (let r : Reply = record { turn = suc (length y.entries); from = j; row = row_of n (y.boards j).line } in
-        reply_sent n y j (suc (length y.entries)) ≡ record y { replies = r ∷ y.replies })
-    unfolding reply_sent
-    test-gives j hj l =
-        let lives : is_live (y.boards j).line ≡ true = ap is_live (line-now j hj) ∙ (live-line n t j ∙ l) in
-        rw (lt-ltb j n hj, lives, eq-eqb (suc (length y.entries)) (suc (y.boards j).in_force) (ap suc (sym (v.levels j hj).0))) refl
+      z : numbered_table_refusal w n t ≡ 0
+      z = accepted-number w n t accepted-now
 
-    reply-gives : (j : ℕ) → j ≡ tested w n e.station mine.line
-        → (let r : Reply = record { turn = suc (length y.entries); from = j; row = row_of n (y.boards j).line } in
-        let u : System = record y { replies = r ∷ y.replies } in
-        reply_heard w n u e.station (Some r) ≡ turn_made w n u e.station (Some r.row))
-    unfolding reply_heard
-    reply-gives j is =
-        rw (
-          eq-eqb (suc (length y.entries)) (suc mine.in_force) (ap suc (sym (v.levels e.station facts.below).0)),
-          eq-eqb j (tested w n e.station mine.line) is,
-        )
-        refl
+      going : finished n t own ≡ 1 → ⊥
+      going = facts.unfinished (eqb-false e.kind 3 c)
 
-    -- with a reply, and without one
-    none-makes : (let x : End = record { turn = suc mine.in_force; from = e.station; outcome = outcome w n e.station mine.line None; row = row_of n mine.line } in
-        entry_by w n t x ≡ e) → Makes y e
-    unfolding Makes after_happenings
-    none-makes q = (
-      none_comes e.station ∷ end_comes 0 ∷ [],
-      subst (λ (u : System). MadeIn y e (after_happenings w n s u (end_comes 0 ∷ []))) (sym (turn-gives y e v.levels ok None))
-          (subst (MadeIn y e) (sym (end-gives y e v.levels ok None q))
-          (record { entries = refl; noted = entered-noted y e v.levels ok None })),
-    )
+      -- no reply comes
+      none-makes : (o : ℕ) → tester_answer w n own (line n t own) None ≡ Ok o → kind_by o (live n t j) ≡ e.kind → Makes y e
+      unfolding Makes after_happenings
+      none-makes o ans k =
+          let says : tester_answer w n own mine.line None ≡ Ok o = ap (λ (l : List ℕ). tester_answer w n own l None) (line-now own facts.below) ∙ ans in
+          let q : entry_of (kind_by o (live n t j)) own ≡ e = ap (λ (k : ℕ). entry_of k own) k in (
+            none_comes own ∷ end_comes 0 ∷ [],
+            subst (λ (u : System). MadeIn y e (after_happenings w n s u (end_comes 0 ∷ []))) (sym (turn-gives y e v.levels ok None o says))
+                (subst (MadeIn y e) (sym (end-gives y e v.levels ok None o says q))
+                (record { entries = refl; noted = entered-noted y e v.levels ok None o says })),
+          )
 
-    row-makes : (j : ℕ) → j < n → live n t j ≡ true → j ≡ tested w n e.station mine.line
-        → (let x : End = record {
-          turn = suc mine.in_force;
-          from = e.station;
-          outcome = outcome w n e.station mine.line (Some (row_of n (y.boards j).line));
-          row = row_of n mine.line;
-        } in
-        entry_by w n t x ≡ e)
-        → Makes y e
-    unfolding Makes after_happenings
-    row-makes j hj l is q =
-        let i : ℕ = e.station in
-        let r : Reply = record { turn = suc (length y.entries); from = j; row = row_of n (y.boards j).line } in
-        let u : System = record y { replies = r ∷ y.replies } in (
-          test_comes j (suc (length y.entries)) ∷ reply_comes i 0 ∷ end_comes 0 ∷ [],
-          subst (λ (u : System). MadeIn y e (after_happenings w n s (reply_heard w n u i (slice_get u.replies 0)) (end_comes 0 ∷ []))) (sym (test-gives j hj l))
-              (subst (λ (u : System). MadeIn y e (after_happenings w n s u (end_comes 0 ∷ []))) (sym (reply-gives j is))
-              (subst (λ (u : System). MadeIn y e (after_happenings w n s u (end_comes 0 ∷ []))) (sym (turn-gives u e v.levels ok (Some r.row)))
-              (subst (MadeIn y e) (sym (end-gives u e v.levels ok (Some r.row) q))
-              (record { entries = refl; noted = entered-noted u e v.levels ok (Some r.row) })))),
-        )
+      -- a test, and the reply to it
+      abbrev r : Reply
+      r = record { turn = suc (length y.entries); from = j; packed = row_from w n j (y.boards j).line }
+
+      abbrev tried : System
+      tried = record y { replies = r ∷ y.replies }
+
+      test-gives : j < n → live n t j ≡ true → reply_sent w n y j (suc (length y.entries)) ≡ tried
+      unfolding reply_sent
+      test-gives hj l =
+          let lives : is_live (y.boards j).line ≡ true = ap is_live (line-now j hj) ∙ (live-line n t j ∙ l) in
+          rw (lt-ltb j n hj, lives, eq-eqb (suc (length y.entries)) (suc (y.boards j).in_force) (ap suc (sym (v.levels j hj).0))) refl
+
+      reply-gives : j ≡ named (next_answer w n own mine.line) → reply_heard w n tried own (Some r) ≡ turn_made w n tried own (Some r.packed)
+      unfolding reply_heard
+      reply-gives is =
+          rw (
+            eq-eqb (suc (length y.entries)) (suc mine.in_force) (ap suc (sym (v.levels own facts.below).0)),
+            eq-eqb j (named (next_answer w n own mine.line)) is,
+          )
+          refl
+
+      row-makes : j < n → live n t j ≡ true → makes_test w n t own ≡ true → (o : ℕ)
+          → tester_answer w n own (line n t own) (Some (pack n (row_of n (line n t j)))) ≡ Ok o → kind_by o (live n t j) ≡ e.kind → Makes y e
+      unfolding Makes after_happenings
+      row-makes hj l m o ans k =
+          let row : r.packed ≡ pack n (row_of n (line n t j)) =
+          ap (row_from w n j) (line-now j hj) ∙ row-written w n t accepted-now j hj l in
+          let says : tester_answer w n own mine.line (Some r.packed) ≡ Ok o =
+          ap (λ (l : List ℕ). tester_answer w n own l (Some r.packed)) (line-now own facts.below)
+          ∙ (ap (λ (p : List ℕ). tester_answer w n own (line n t own) (Some p)) row ∙ ans) in
+          let is : j ≡ named (next_answer w n own mine.line) =
+          sym (names w n t accepted-now own facts.below facts.is_live going m)
+          ∙ ap (λ (l : List ℕ). named (next_answer w n own l)) (sym (line-now own facts.below)) in
+          let q : entry_of (kind_by o (live n t j)) own ≡ e = ap (λ (k : ℕ). entry_of k own) k in (
+            test_comes j (suc (length y.entries)) ∷ reply_comes own 0 ∷ end_comes 0 ∷ [],
+            subst (λ (u : System). MadeIn y e (after_happenings w n s (reply_heard w n u own (slice_get u.replies 0)) (end_comes 0 ∷ []))) (sym (test-gives hj l))
+                (subst (λ (u : System). MadeIn y e (after_happenings w n s u (end_comes 0 ∷ []))) (sym (reply-gives is))
+                (subst (λ (u : System). MadeIn y e (after_happenings w n s u (end_comes 0 ∷ []))) (sym (turn-gives tried e v.levels ok (Some r.packed) o says))
+                (subst (MadeIn y e) (sym (end-gives tried e v.levels ok (Some r.packed) o says q))
+                (record { entries = refl; noted = entered-noted tried e v.levels ok (Some r.packed) o says })))),
+          )
+
+      -- the turn is made, with the kind of the entry
+      turn-makes : (e.kind ≡ 2 → (is_test w n t e ≡ true) × (live n t (tested_of w n t e) ≡ true)) → Makes y e
+      unfolding tested_of
+      turn-makes late =
+          let k : ℕ = kind_by 3 (live n t j) in
+          let none : makes_test w n t own ≡ true → tester_answer w n own (line n t own) None ≡ Ok (turn_outcome w n t k own) =
+          λ m. subst (λ (p : Option (List ℕ)). tester_answer w n own (line n t own) p ≡ Ok (turn_outcome w n t k own))
+          (none-comes w n t accepted-now own facts.below facts.is_live going) (answers w n t k own z facts.below facts.is_live going m) in
+          by_bool (eqb e.kind 2)
+          (λ two.
+          let is2 : e.kind ≡ 2 = eqb-true e.kind 2 two in
+          let p = late is2 in
+          let m : makes_test w n t own ≡ true = rw c at p.0 in
+          let l : live n t j ≡ true = rw c at p.1 in
+          none-makes (turn_outcome w n t k own) (none m)
+          (rw (none-number w n t accepted-now own facts.below facts.is_live going m, l) (sym is2)))
+          (λ d.
+          let is1 : e.kind ≡ 1 = one e.kind facts.kind_low facts.kind_high (eqb-false e.kind 2 d) (eqb-false e.kind 3 c) in
+          by_bool (makes_test w n t own)
+          (λ m.
+          by_bool (live n t j)
+          (λ l.
+          row-makes (tested-below w n t own accepted-now.long facts.below m) l m (turn_outcome w n t 1 own)
+          (subst (λ (p : Option (List ℕ)). tester_answer w n own (line n t own) p ≡ Ok (turn_outcome w n t 1 own))
+          (row-comes w n t accepted-now own facts.below facts.is_live going l) (answers w n t 1 own z facts.below facts.is_live going m))
+          (rw (row-number w n t accepted-now own facts.below facts.is_live going m l) (sym is1)))
+          (λ l.
+          none-makes (turn_outcome w n t k own) (none m) (rw (none-number w n t accepted-now own facts.below facts.is_live going m, l) (sym is1))))
+          (λ m.
+          none-makes (turn_outcome w n t 1 own) (idle-answers w n t 1 own z facts.below facts.is_live going m)
+          (rw (pass-number w n t accepted-now own facts.below facts.is_live going m 1) (sym is1))))
 
     -- the entry is made
     entry-makes : (e.kind ≡ 2 → (is_test w n t e ≡ true) × (live n t (tested_of w n t e) ≡ true)) → Makes y e
-    unfolding tested_of
-    entry-makes late =
-        by_bool (is_crash e) crash-makes
-        (λ c.
-        by_bool (eqb e.kind 2)
-        (λ two.
-        let k : e.kind ≡ 2 = eqb-true e.kind 2 two in
-        let p = late k in
-        let makes : makes_test w n t e.station ≡ true = rw c at p.0 in
-        let lives : live n t (turn_tested w n t e.station) ≡ true = rw c at p.1 in
-        none-makes (rw (none-outcome w n e.station mine.line (tests-now ∙ makes), lives) (ap (λ (k : ℕ). entry_of k e.station) (sym k))))
-        (λ d.
-        let not3 = eqb-false e.kind 3 c in
-        let not2 = eqb-false e.kind 2 d in
-        let k : e.kind ≡ 1 = one e.kind facts.kind_low facts.kind_high not2 not3 in
-        let is : entry_of 1 e.station ≡ e = ap (λ (k : ℕ). entry_of k e.station) (sym k) in
-        by_bool (tests w n e.station mine.line)
-        (λ m.
-        let j : ℕ = tested w n e.station mine.line in
-        let makes : makes_test w n t e.station ≡ true = sym tests-now ∙ m in
-        let low : j < n =
-        subst (λ (j : ℕ). j < n) tested-now (tested-below w n t e.station accepted-now.long facts.below makes) in
-        by_bool (live n t j)
-        (λ l. row-makes j low l refl (rw (row-outcome w n e.station mine.line (row_of n (y.boards j).line) m) is))
-        (λ l. none-makes (rw (none-outcome w n e.station mine.line m, tested-now, l) is)))
-        (λ m. none-makes (rw (pass-outcome w n e.station mine.line m None) is))))
+    entry-makes late = by_bool (is_crash e) crash-makes (λ c. turn-makes c late)
 
   -- entries that follow those that are made
   Goes : System → List Entry → Type 0

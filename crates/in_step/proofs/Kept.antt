@@ -10,7 +10,7 @@ use borrow.Author.Tests.{eqb-true, ltb-true, eq-eqb}
 use lib.Dec.{eqb, ltb}
 use lib.ListN.{length, take, length-append}
 use lib.Seq.{take-length, length-take-le}
-use Rattle.std.specs.Prelude.{Option, None, Some, is_none, slice_get}
+use Rattle.std.specs.Prelude.{Option, None, Some, Result, Ok, Err, is_none, slice_get}
 use Rattle.std.proofs.lemmas.Option.{same_Some, none-some, slice_get_within}
 use Rattle.lists.proofs.BoolLaws.{by_bool}
 use Rattle.lists.proofs.SearchLaws.{both}
@@ -20,19 +20,22 @@ use Rattle.table.specs.Line.{line, row_of, is_live}
 use Rattle.table.proofs.Accepting.{Accepted, accepted}
 use Rattle.plant.specs.Turn.{turn}
 use Rattle.plant.specs.Entry.{Entry, State, entry_of, is_crash, entry_refusal, acted, after}
-use Rattle.board.specs.Board.{tested, turn_of, outcome, round_closed}
+use Rattle.board.specs.Packed.{pack}
+use Rattle.board.specs.Calls.{next_answer, closed_after}
+use Rattle.cable.specs.Boards.{row_from, named, tester_after, tester_answer}
+use Rattle.lists.specs.declared.refusal.Refusal.{Refusal}
 use Rattle.plant.proofs.RulesKept.{entry-facts}
 use Rattle.in_step.specs.System.{Board, Reply, End, System, start, after_all, table_at, Note, note_of, row_heard, line_by}
-use Rattle.in_step.specs.Happenings.{with_board, reply_sent, turn_made, reply_heard, entry_made, entry_by, end_heard, put_in_force, note_heard, Happening, after_happening, after_happenings}
+use Rattle.in_step.specs.Happenings.{with_board, reply_sent, turn_ended, turn_made, reply_heard, entry_made, entry_by, end_heard, put_in_force, note_heard, Happening, after_happening, after_happenings}
 use Rattle.in_step.specs.Happenings.Happening.{test_comes, reply_comes, none_comes, end_comes, crash_found, note_comes}
 use Rattle.in_step.specs.Claims.{InStep, BoardsInStep}
-use Rattle.in_step.proofs.TurnHeard.{RowOf, Heard, live-line, own-turn, own-outcome, line-after}
+use Rattle.in_step.proofs.TurnHeard.{row-written, RowOf, Heard, live-line, own-turn, own-outcome, line-after}
 use Rattle.in_step.proofs.Runs.{is-run, taken-take}
 use Rattle.in_step.proofs.Entries.{get-snoc, cons-all, table-kept, at-next, Taken, taken-snoc, taken-at, accepted-at}
 
--- of a reply of turn e + 1: it is of a board that table t, after e entries, has live, and brings its row
+-- of a reply of turn e + 1: it is of a board that table t, after e entries, has live, and brings its row, packed
 pub record ReplyOn (n : ℕ) (t : List ℕ) (r : Reply) : Type 0 where
-  pub row : r.row ≡ row_of n (line n t r.from)
+  pub packed : r.packed ≡ pack n (row_of n (line n t r.from))
   pub is_live : live n t r.from ≡ true
 
 -- of an end of turn e + 1 of board b: it comes of what b may have heard; and it is the line aside that b keeps
@@ -40,9 +43,9 @@ pub record EndOn (w n : ℕ) (t : List ℕ) (b : Board) (x : End) (e : ℕ) : Ty
   pub reached : e ≤ b.in_force
   pub reply : Option (List ℕ)
   pub heard : Heard w n t x.from reply
-  pub outcome_sent : x.outcome ≡ outcome w n x.from (line n t x.from) reply
-  pub row : x.row ≡ row_of n (line n t x.from)
-  pub aside : b.in_force ≡ e → b.aside ≡ Some (turn_of w n x.from (line n t x.from) reply)
+  pub says : tester_answer w n x.from (line n t x.from) reply ≡ Ok x.outcome
+  pub packed : x.packed ≡ row_from w n x.from (line n t x.from)
+  pub aside : b.in_force ≡ e → b.aside ≡ Some (tester_after w n x.from (line n t x.from) reply)
 
 -- of entry m, a turn of board b: until the entry is in force at b, it keeps aside its line of the table after it
 pub record OwnOn (w n : ℕ) (t : List ℕ) (b : Board) (m : ℕ) (e : Entry) : Type 0 where
@@ -100,8 +103,8 @@ module _ (w n : ℕ) (s : State) (a : Accepted w n s.table) where
       reached = omega (arith, d.reached, moves.further);
       reply = d.reply;
       heard = d.heard;
-      outcome_sent = d.outcome_sent;
-      row = d.row;
+      says = d.says;
+      packed = d.packed;
       aside = λ q. let o = moves.open_turn e d.reached q in absurd (none-aside (y.boards k).aside _ o.1 (d.aside o.0));
     }
 
@@ -199,7 +202,7 @@ module _ (w n : ℕ) (s : State) (a : Accepted w n s.table) where
       (λ q. rw q h)
 
   -- a test comes
-  reply-kept : (y : System) → Holds y → (j turn : ℕ) → Holds (reply_sent n y j turn)
+  reply-kept : (y : System) → Holds y → (j turn : ℕ) → Holds (reply_sent w n y j turn)
   unfolding reply_sent GoodReply Fits
   reply-kept y h j number =
       let b : Board = y.boards j in
@@ -211,13 +214,18 @@ module _ (w n : ℕ) (s : State) (a : Accepted w n s.table) where
       let fits = h.boards j low in
       let turn = eqb-true number (suc b.in_force) p.1 in
       rw q
-      (replied y (record { turn = number; from = j; row = row_of n b.line }) h (
+      (replied y (record { turn = number; from = j; packed = row_from w n j b.line }) h (
         low,
         λ e z.
-            let same : b.in_force ≡ e = omega (arith, turn, z) in (
+            let same : b.in_force ≡ e = omega (arith, turn, z) in
+            let t : List ℕ = T y.entries b.in_force in
+            let lives : live n t j ≡ true = sym (live-line n t j) ∙ (sym (ap is_live fits.1) ∙ r.1) in (
               omega (arith, fits.0, same),
-              subst (λ (e : ℕ). ReplyOn n (T y.entries e) (record { turn = number; from = j; row = row_of n b.line })) same
-                  (record { row = ap (row_of n) fits.1; is_live = sym (live-line n (T y.entries b.in_force) j) ∙ (sym (ap is_live fits.1) ∙ r.1) }),
+              subst (λ (e : ℕ). ReplyOn n (T y.entries e) (record { turn = number; from = j; packed = row_from w n j b.line })) same
+                  (record {
+                    packed = ap (row_from w n j) fits.1 ∙ row-written w n t (accepted-at w n s y.entries a h.taken b.in_force) j low lives;
+                    is_live = lives;
+                  }),
             ),
       )))
       (λ q. rw q h)
@@ -228,37 +236,50 @@ module _ (w n : ℕ) (s : State) (a : Accepted w n s.table) where
     abbrev b : Board
     b = y.boards i
 
+    abbrev mine : List ℕ
+    mine = tester_after w n i b.line reply
+
     abbrev b' : Board
-    b' = record b { aside = Some (turn_of w n i b.line reply) }
+    b' = record b { aside = Some mine }
 
-    abbrev x : End
-    x = record { turn = suc b.in_force; from = i; outcome = outcome w n i b.line reply; row = row_of n b.line }
+    module _ (o : ℕ) (says : tester_answer w n i b.line reply ≡ Ok o) where
+      abbrev x : End
+      x = record { turn = suc b.in_force; from = i; outcome = o; packed = row_from w n i b.line }
 
-    good-end : GoodEnd y.entries (with_board y i b').boards x
-    unfolding GoodEnd Fits
-    good-end low e q =
-        let fits = h.boards i low in
-        let same : b.in_force ≡ e = omega (arith, q) in (
-          omega (arith, fits.0, same),
-          rw (eq-eqb i i refl)
-              (subst (λ (e : ℕ). EndOn w n (T y.entries e) b' x e) same
-              (record {
-                reached = omega arith;
-                reply = reply;
-                heard = heard low;
-                outcome_sent = ap (λ (l : List ℕ). outcome w n i l reply) fits.1;
-                row = ap (row_of n) fits.1;
-                aside = λ _. ap (λ (l : List ℕ). Some (turn_of w n i l reply)) fits.1;
-              })),
-        )
+      good-end : GoodEnd y.entries (with_board y i b').boards x
+      unfolding GoodEnd Fits
+      good-end low e q =
+          let fits = h.boards i low in
+          let same : b.in_force ≡ e = omega (arith, q) in (
+            omega (arith, fits.0, same),
+            rw (eq-eqb i i refl)
+                (subst (λ (e : ℕ). EndOn w n (T y.entries e) b' x e) same
+                (record {
+                  reached = omega arith;
+                  reply = reply;
+                  heard = heard low;
+                  says = ap (λ (l : List ℕ). tester_answer w n i l reply) (sym fits.1) ∙ says;
+                  packed = ap (row_from w n i) fits.1;
+                  aside = λ _. ap (λ (l : List ℕ). Some (tester_after w n i l reply)) fits.1;
+                })),
+          )
+
+      ended-kept : is_none b.aside ≡ true → Holds (turn_ended w n y i mine (Ok o))
+      unfolding turn_ended Fits
+      ended-kept q =
+          let moves : Moves b b' = record { further = omega arith; open_turn = λ e low z. (z, q) } in
+          ended (with_board y i b') x (moved y h i b' (h.boards i) moves) good-end
+
+    answered-kept : is_none b.aside ≡ true → (r : Result ℕ Refusal) → tester_answer w n i b.line reply ≡ r → Holds (turn_ended w n y i mine r)
+    unfolding turn_ended
+    answered-kept q (Ok o) says = ended-kept o says q
+    answered-kept q (Err r) says = h
 
     turn-kept : Holds (turn_made w n y i reply)
-    unfolding turn_made Fits
+    unfolding turn_made
     turn-kept =
         by_bool (is_none b.aside)
-        (λ q.
-        let moves : Moves b b' = record { further = omega arith; open_turn = λ e low z. (z, q) } in
-        rw q (ended (with_board y i b') x (moved y h i b' (h.boards i) moves) good-end))
+        (λ q. rw q (answered-kept q (tester_answer w n i b.line reply) refl))
         (λ q. rw q h)
 
   -- a reply comes
@@ -267,17 +288,17 @@ module _ (w n : ℕ) (s : State) (a : Accepted w n s.table) where
   heard-kept y h i None good = h
   heard-kept y h i (Some r) good =
       let b : Board = y.boards i in
-      by_bool (eqb r.turn (suc b.in_force) && eqb r.from (tested w n i b.line))
+      by_bool (eqb r.turn (suc b.in_force) && eqb r.from (named (next_answer w n i b.line)))
       (λ q.
       let p = both _ _ q in
       let g = good r refl in
       let on = g.1 b.in_force (eqb-true r.turn (suc b.in_force) p.0) in
       rw q
-      (turn-kept y h i (Some r.row) (λ hi.
-      let j : r.from ≡ tested w n i (line n (T y.entries b.in_force) i) =
-      eqb-true r.from (tested w n i b.line) p.1 ∙ ap (tested w n i) (h.boards i hi).1 in
-      inr (subst (λ (j : ℕ). RowOf n (T y.entries b.in_force) j (Some r.row)) j
-      (record { given = ap Some on.1.row; is_live = on.1.is_live; below = g.0 })))))
+      (turn-kept y h i (Some r.packed) (λ hi.
+      let j : r.from ≡ named (next_answer w n i (line n (T y.entries b.in_force) i)) =
+      eqb-true r.from (named (next_answer w n i b.line)) p.1 ∙ ap (λ (l : List ℕ). named (next_answer w n i l)) (h.boards i hi).1 in
+      inr (subst (λ (j : ℕ). RowOf n (T y.entries b.in_force) j (Some r.packed)) j
+      (record { given = ap Some on.1.packed; is_live = on.1.is_live; below = g.0 })))))
       (λ q. rw q h)
 
   -- an end comes to the master
@@ -303,7 +324,7 @@ module _ (w n : ℕ) (s : State) (a : Accepted w n s.table) where
       let own : OwnOn w n t (y.boards x.from) (length y.entries) (entry_by w n t x) =
       record {
         reached = now.reached;
-        aside = λ b. now.aside b ∙ ap Some (own-turn w n t (accepted-all y h) x low now.reply now.heard now.outcome_sent);
+        aside = λ b. now.aside b ∙ ap Some (own-turn w n (after_all w n s y.entries) (accepted-all y h) x z now.reply now.heard now.says);
       } in
       subst (λ (t' : List ℕ). OwnOn w n t' (y.boards x.from) (length y.entries) (entry_by w n t x)) (sym here) own)))
       (λ q. rw q h)
@@ -321,7 +342,7 @@ module _ (w n : ℕ) (s : State) (a : Accepted w n s.table) where
     taken-here = taken-at w n s y.entries h.taken m e g
 
     row-true : (o : Option End) → ((x : End) → o ≡ Some x → GoodEnd y.entries y.boards x) → (r : List ℕ) → row_heard here e.station o ≡ Some r
-        → r ≡ row_of n (line n was.table e.station)
+        → r ≡ row_from w n e.station (line n was.table e.station)
     unfolding row_heard GoodEnd
     row-true None good r z = absurd (none-some r z)
     row-true (Some x) good r z =
@@ -333,21 +354,21 @@ module _ (w n : ℕ) (s : State) (a : Accepted w n s.table) where
         let low : x.from < n = omega (arith, from, below) in
         let turn : x.turn ≡ suc m = omega (arith, eqb-true x.turn (suc here.in_force) p.0, next) in
         let d = (good x refl low m turn).1 in
-        let z : Some x.row ≡ Some r = rw q at z in
-        sym (same_Some x.row r z) ∙ (d.row ∙ ap (λ (v : ℕ). row_of n (line n was.table v)) from))
+        let z : Some x.packed ≡ Some r = rw q at z in
+        sym (same_Some x.packed r z) ∙ (d.packed ∙ ap (λ (v : ℕ). row_from w n v (line n was.table v)) from))
         (λ q. let z : None ≡ Some r = rw q at z in absurd (none-some r z))
 
     own-true : is_crash e ≡ false → k ≡ e.station → here.aside ≡ Some (line n (acted w n was.table e) e.station)
     own-true c q =
         let o = subst (λ (v : ℕ). OwnOn w n was.table (y.boards v) m e) (sym q) (h.own m e g c) in o.aside (sym next)
 
-    put-kept : (o : Option (List ℕ)) → line_by n k here (note_of w n was.table e) heard ≡ o
-        → Holds (put_in_force y k (note_of w n was.table e) o)
+    put-kept : (o : Option (List ℕ)) → line_by w n k here (note_of w n was.table e) heard ≡ o
+        → Holds (put_in_force w n y k (note_of w n was.table e) o)
     unfolding put_in_force Fits
     put-kept None z = h
     put-kept (Some l) z =
         let note : Note = note_of w n was.table e in
-        let b : Board = record { in_force = suc here.in_force; line = cond note.closed (round_closed l) l; aside = None } in
+        let b : Board = record { in_force = suc here.in_force; line = cond note.closed (closed_after w n k l) l; aside = None } in
         let fits : k < n → (b.in_force ≤ length y.entries) × (b.line ≡ line n (T y.entries b.in_force) k) =
         λ hk.
         let now : here.line ≡ line n was.table k = (h.boards k hk).1 ∙ ap (λ (v : ℕ). line n (T y.entries v) k) (sym next) in
@@ -367,7 +388,7 @@ module _ (w n : ℕ) (s : State) (a : Accepted w n s.table) where
   note-kept y h k m (Some e) heard is good =
       let b : Board = y.boards k in
       by_bool (eqb m b.in_force)
-      (λ q. rw q (put-kept y h k m e (is e refl) (eqb-true m b.in_force q) heard good (line_by n k b (note_of w n (T y.entries m) e) heard) refl))
+      (λ q. rw q (put-kept y h k m e (is e refl) (eqb-true m b.in_force q) heard good (line_by w n k b (note_of w n (T y.entries m) e) heard) refl))
       (λ q. rw q h)
 
   pub happening-kept : (y : System) → Holds y → (x : Happening) → Holds (after_happening w n s y x)
@@ -398,7 +419,7 @@ module _ (w n : ℕ) (s : State) (a : Accepted w n s.table) where
         ap (λ (es : List Entry). (after_all w n s es).table) (take-length y.entries) in
         let on : EndOn w n t (y.boards d.from) d (length y.entries) =
         subst (λ (t : List ℕ). EndOn w n t (y.boards d.from) d (length y.entries)) here (h.ends x d g low (length y.entries) turn).1 in
-        own-outcome w n t (accepted-all y h) d low on.reply on.heard on.outcome_sent;
+        own-outcome w n (after_all w n s y.entries) (accepted-all y h) d ok on.reply on.heard on.says;
   }
 
 pub boards-in-step : BoardsInStep

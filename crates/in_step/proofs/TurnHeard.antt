@@ -1,49 +1,65 @@
 -- A turn by what the tester heard, and what an entry makes of each line.
 -- Assumes nothing.
-use mathlib.Core.Path.{◌≡◌, refl, sym, ap, ◌∙◌}
+use mathlib.Core.Path.{◌≡◌, refl, sym, ap, subst, ◌∙◌}
 use mathlib.Core.Logic.{◌≢◌, ◌⊎◌, ⊎_elim}
 use mathlib.Core.Bool.{Bool, true, false, cond, ◌&&◌}
 use mathlib.Core.List.{List}
 use Prim.Native.Nat.{ℕ, ◌+◌, ◌<◌}
 use native.Mathlib.Decide.{ℕ_discrete}
 use native.Mathlib.Omega.{arith}
-use borrow.Author.Tests.{eq-eqb, ne_eqb}
+use borrow.Author.Tests.{eqb-true, eqb-false, eq-eqb, ne_eqb}
 use lib.Dec.{eqb}
-use lib.ListN.{get_or, set}
-use Rattle.std.specs.Prelude.{Option, None, Some, option_map}
+use lib.ListN.{length, get_or, set}
+use Rattle.std.specs.Prelude.{Option, None, Some, Result, Ok, option_map}
+use Rattle.std.specs.Result.{result_unwrap_or}
 use Rattle.std.proofs.lemmas.Option.{same_Some, none-some}
 use Rattle.lists.proofs.BoolLaws.{by_bool, choice}
-use Rattle.table.specs.Table.{live, row, status_column, status_crashed}
-use Rattle.table.specs.Rules.{round_over}
+use Rattle.table.specs.Table.{finished, live, row, status_column, status_crashed}
+use Rattle.table.specs.Rules.{round_over, numbered_table_refusal}
 use Rattle.table.specs.Line.{line, row_of, is_live}
 use Rattle.table.proofs.Accepting.{Accepted}
 use Rattle.table.proofs.LineLaws.{line_at, line-row, line-set, line-set-other}
 use Rattle.table.proofs.SizeLaws.{size_top}
-use Rattle.plant.specs.Turn.{replies, turn, turn_tested, turn_outcome, crash}
+use Rattle.plant.specs.Turn.{makes_test, replies, turn, turn_tested, turn_outcome, crash}
 use Rattle.plant.specs.Round.{after_round}
 use Rattle.plant.specs.Entry.{Entry, State, entry_of, is_crash, entry_refusal, acted, after, tested_of}
 use Rattle.plant.specs.Entry.{outcome_of as entry_outcome}
 use Rattle.plant.proofs.RunLaws.{accepted-number}
 use Rattle.plant.proofs.RulesKept.{Takes, entry-facts, acted-lines}
-use Rattle.board.specs.Board.{tests, tested, turn_of, outcome_of, outcome, message, received, round_closed, joined, left_told}
+use Rattle.board.specs.Board.{tests, outcome_of, outcome, received, message, joined, round_closed}
+use Rattle.board.specs.Packed.{packed_length, pack, heard as row_of_packed}
+use Rattle.board.specs.Calls.{line_check, next_answer, told_after, exchanged_after, closed_after}
+use Rattle.cable.specs.Boards.{row_from, named, tester_after, tester_answer}
+use Rattle.cable.proofs.LineFacts.{line-ok}
+use Rattle.cable.proofs.RowsSent.{pack-length, rows-travel}
+use Rattle.cable.proofs.CallsOnCable.{row-ok, live-ok, exchanged-ok, packed_reply, asks, asks-nobody, leaves, answers, idle-leaves, idle-answers, answering, told-leaves, others-keep}
+use Rattle.table.proofs.CellLaws.{line-holds, accepted-line}
 use Rattle.cable.specs.Claims.{answered, reply_to, SameTurn}
 use Rattle.in_step.specs.System.{Board, End, Note, note_of, row_heard, own_line, tested_line, line_by}
 use Rattle.in_step.specs.Happenings.{entry_by}
-use Rattle.cable.proofs.TurnByLines.{same-turn}
+use Rattle.cable.proofs.TurnByLines.{same-turn, tests-line, tested-below, tested-apart, none-tested, finish-outcome}
 use Rattle.cable.proofs.ClosingByLines.{boards-close}
 
--- what board i may have heard in its turn on table t: nothing, or the row of the board that it tests, which is live
+same_Ok : {A B : Type 0} {x y : A} → ◌≡◌ {A = Result A B} (Ok x) (Ok y) → x ≡ y
+same_Ok {x = x} e = ap (λ r. result_unwrap_or r x) e
+
+-- what board i may have heard in its turn on table t: nothing, or the row of the board that its call names, which is live
 pub record RowOf (n : ℕ) (t : List ℕ) (j : ℕ) (reply : Option (List ℕ)) : Type 0 where
-  pub given : reply ≡ Some (row_of n (line n t j))
+  pub given : reply ≡ Some (pack n (row_of n (line n t j)))
   pub is_live : live n t j ≡ true
   pub below : j < n
 
 abbrev pub Heard : ℕ → ℕ → List ℕ → ℕ → Option (List ℕ) → Type 0
-Heard w n t i reply = (reply ≡ None) ⊎ RowOf n t (tested w n i (line n t i)) reply
+Heard w n t i reply = (reply ≡ None) ⊎ RowOf n t (named (next_answer w n i (line n t i))) reply
 
 -- a board's line shows whether it is live
 pub live-line : (n : ℕ) (t : List ℕ) (k : ℕ) → is_live (line n t k) ≡ live n t k
 live-line n t k = ap (λ (x : ℕ). eqb x 0) (line_at n t k status_column (omega arith))
+
+-- a live board's call writes its row
+pub row-written : (w n : ℕ) (t : List ℕ) (a : Accepted w n t) (k : ℕ) → k < n → live n t k ≡ true
+    → row_from w n k (line n t k) ≡ pack n (row_of n (line n t k))
+row-written w n t a k hk l = row-ok w n k (line n t k) (live-ok w n t k (accepted-number w n t a) hk l)
 
 -- an outcome by a row is not 3
 by-row : (i j : ℕ) (l r : List ℕ) → eqb (outcome_of i j l (Some r)) 3 ≡ false
@@ -53,7 +69,7 @@ by-row i j l r =
     choice P (eqb (get_or r i 0) 1) refl (choice P (eqb (get_or l (6 + j) 0) 1) refl refl)
 
 -- the kind that the master gives a turn, by its outcome and whether the board tested is live
-abbrev kind_by : ℕ → Bool → ℕ
+abbrev pub kind_by : ℕ → Bool → ℕ
 kind_by o live = cond (eqb o 3 && live) 2 1
 
 none-answered : (n : ℕ) (t : List ℕ) (j : ℕ) → answered n t (kind_by 3 (live n t j)) j ≡ None
@@ -64,79 +80,143 @@ row-answered : (n : ℕ) (t : List ℕ) (j : ℕ) → live n t j ≡ true → an
 unfolding answered replies
 row-answered n t j e = rw e
 
-module _ (w n i : ℕ) (l : List ℕ) where
-  pub none-outcome : tests w n i l ≡ true → outcome w n i l None ≡ 3
-  unfolding outcome outcome_of
-  none-outcome e = rw e
+none-outcome : (w n i : ℕ) (l : List ℕ) → tests w n i l ≡ true → outcome w n i l None ≡ 3
+unfolding outcome outcome_of
+none-outcome w n i l e = rw e
 
-  pub row-outcome : (r : List ℕ) → tests w n i l ≡ true → eqb (outcome w n i l (Some r)) 3 ≡ false
-  unfolding outcome
-  row-outcome r e = rw e (by-row i _ l r)
+row-outcome : (w n i : ℕ) (l r : List ℕ) → tests w n i l ≡ true → eqb (outcome w n i l (Some r)) 3 ≡ false
+unfolding outcome
+row-outcome w n i l r e = rw e (by-row i _ l r)
 
-  pub pass-outcome : tests w n i l ≡ false → (r : Option (List ℕ)) → outcome w n i l r ≡ 0
-  unfolding outcome
-  pass-outcome e r = rw e
-
-module _ (w n : ℕ) (t : List ℕ) (a : Accepted w n t) (i : ℕ) (h : i < n) (reply : Option (List ℕ)) (heard : Heard w n t i reply) where
+-- a turn of board i, live and not finished
+module _ (w n : ℕ) (t : List ℕ) (a : Accepted w n t) (i : ℕ) (h : i < n) (alive : live n t i ≡ true) (going : finished n t i ≡ 1 → ⊥) where
   abbrev mine : List ℕ
   mine = line n t i
 
   abbrev j : ℕ
-  j = tested w n i mine
+  j = turn_tested w n t i
 
-  abbrev kind : ℕ
-  kind = kind_by (outcome w n i mine reply) (live n t (turn_tested w n t i))
+  z : numbered_table_refusal w n t ≡ 0
+  z = accepted-number w n t a
 
-  same : SameTurn w n t kind i
-  same = same-turn w n t kind i (accepted-number w n t a) h
+  -- no reply in time, and a reply
+  pub none-comes : packed_reply w n t (kind_by 3 (live n t j)) i ≡ None
+  unfolding packed_reply replies
+  none-comes = by_bool (live n t j) (λ e. rw e) (λ e. rw e)
 
-  tested-same : turn_tested w n t i ≡ j
-  tested-same = (same-turn w n t 1 i (accepted-number w n t a) h).tested_station
+  pub row-comes : live n t j ≡ true → packed_reply w n t 1 i ≡ Some (pack n (row_of n (line n t j)))
+  unfolding packed_reply replies
+  row-comes e = rw e
 
-  -- of a turn that tests it is the reply that the table's turn has
-  reply-heard : tests w n i mine ≡ true → reply ≡ reply_to w n t kind i
-  reply-heard e =
+  -- what the call answers then
+  pub none-number : makes_test w n t i ≡ true → turn_outcome w n t (kind_by 3 (live n t j)) i ≡ 3
+  none-number m =
+      let same : SameTurn w n t (kind_by 3 (live n t j)) i = same-turn w n t (kind_by 3 (live n t j)) i z h in
+      let q : reply_to w n t (kind_by 3 (live n t j)) i ≡ None =
+      ap (answered n t (kind_by 3 (live n t j))) (sym same.tested_station) ∙ none-answered n t j in
+      same.outcome_number ∙ ap (outcome w n i mine) q ∙ none-outcome w n i mine (tests-line n t i a.long h w ∙ m)
+
+  pub row-number : makes_test w n t i ≡ true → live n t j ≡ true → eqb (turn_outcome w n t 1 i) 3 ≡ false
+  row-number m l =
+      let same : SameTurn w n t 1 i = same-turn w n t 1 i z h in
+      let q : reply_to w n t 1 i ≡ Some (row n t j) = ap (answered n t 1) (sym same.tested_station) ∙ row-answered n t j l in
+      ap (λ (o : ℕ). eqb o 3) (same.outcome_number ∙ ap (outcome w n i mine) q)
+      ∙ row-outcome w n i mine (row n t j) (tests-line n t i a.long h w ∙ m)
+
+  pub pass-number : makes_test w n t i ≡ false → (kind : ℕ) → turn_outcome w n t kind i ≡ 0
+  pass-number m kind =
+      (same-turn w n t kind i z h).outcome_number ∙ finish-outcome w n t kind i a.long h m (reply_to w n t kind i)
+
+  pub names : makes_test w n t i ≡ true → named (next_answer w n i mine) ≡ j
+  names m = ap named (asks w n t 1 i z h alive going m)
+
+  pub names-nobody : makes_test w n t i ≡ false → named (next_answer w n i mine) ≡ 255
+  names-nobody m = ap named (asks-nobody w n t 1 i z h alive going m)
+
+  -- by what it heard: the kind that the master gives the turn is one with which the table has this outcome and this line
+  pub record IsTurn (reply : Option (List ℕ)) (o : ℕ) : Type 0 where
+    pub outcome : o ≡ turn_outcome w n t (kind_by o (live n t j)) i
+    pub line_aside : tester_after w n i mine reply ≡ line n (turn w n t (kind_by o (live n t j)) i) i
+
+  with-kind : (reply : Option (List ℕ)) (o kind : ℕ) → kind_by o (live n t j) ≡ kind → o ≡ turn_outcome w n t kind i
+      → tester_after w n i mine reply ≡ line n (turn w n t kind i) i → IsTurn reply o
+  with-kind reply o kind k e l = record { outcome = rw k e; line_aside = rw k l }
+
+  pub turn-heard : (reply : Option (List ℕ)) → Heard w n t i reply → (o : ℕ) → tester_answer w n i mine reply ≡ Ok o → IsTurn reply o
+  turn-heard reply heard o says =
+      by_bool (makes_test w n t i)
+      (λ m.
       ⊎_elim
-      (λ (none : reply ≡ None). rw (none, tested-same, none-outcome w n i mine e) (sym (none-answered n t j)))
-      (λ (r : RowOf n t j reply).
-      rw (r.given, row-outcome w n i mine (row_of n (line n t j)) e)
-      (ap Some (line-row n t j a.long r.below) ∙ sym (row-answered n t j r.is_live)))
-      heard
+      (λ (none : reply ≡ None).
+      let kind : ℕ = kind_by 3 (live n t j) in
+      let q : packed_reply w n t kind i ≡ reply = none-comes ∙ sym none in
+      let is : o ≡ turn_outcome w n t kind i = same_Ok (sym says ∙ subst (λ (p : Option (List ℕ)). tester_answer w n i mine p ≡ Ok (turn_outcome w n t kind i)) q
+      (answers w n t kind i z h alive going m)) in
+      with-kind reply o kind (ap (λ (o : ℕ). kind_by o (live n t j)) (is ∙ none-number m)) is
+      (subst (λ (p : Option (List ℕ)). tester_after w n i mine p ≡ line n (turn w n t kind i) i) q (leaves w n t kind i z h alive going m)))
+      (λ (r : RowOf n t (named (next_answer w n i mine)) reply).
+      let l : live n t j ≡ true = ap (live n t) (sym (names m)) ∙ r.is_live in
+      let q : packed_reply w n t 1 i ≡ reply = row-comes l ∙ sym (r.given ∙ ap (λ (j : ℕ). Some (pack n (row_of n (line n t j)))) (names m)) in
+      let is : o ≡ turn_outcome w n t 1 i = same_Ok (sym says ∙ subst (λ (p : Option (List ℕ)). tester_answer w n i mine p ≡ Ok (turn_outcome w n t 1 i)) q
+      (answers w n t 1 i z h alive going m)) in
+      let not3 : eqb o 3 ≡ false = ap (λ (o : ℕ). eqb o 3) is ∙ row-number m l in
+      with-kind reply o 1 (rw not3 refl) is
+      (subst (λ (p : Option (List ℕ)). tester_after w n i mine p ≡ line n (turn w n t 1 i) i) q (leaves w n t 1 i z h alive going m)))
+      heard)
+      (λ m.
+      ⊎_elim
+      (λ (none : reply ≡ None).
+      let is : o ≡ turn_outcome w n t 1 i = same_Ok (sym says ∙ (ap (tester_answer w n i mine) none ∙ idle-answers w n t 1 i z h alive going m)) in
+      with-kind reply o 1 (ap (λ (o : ℕ). kind_by o (live n t j)) (is ∙ pass-number m 1)) is
+      (ap (tester_after w n i mine) none ∙ idle-leaves w n t 1 i z h alive going m))
+      (λ (r : RowOf n t (named (next_answer w n i mine)) reply). absurd (omega (arith, r.below, names-nobody m, size_top n a.size)))
+      heard)
 
-  finish-any : tests w n i mine ≡ false → (r r' : Option (List ℕ)) → turn_of w n i mine r ≡ turn_of w n i mine r'
-  unfolding turn_of
-  finish-any e r r' = rw e
-
-  -- so the line computed aside is that of the table after the turn that the master makes of it, and the outcome is that of the turn
-  pub turn-heard : turn_of w n i mine reply ≡ line n (turn w n t kind i) i
-  turn-heard =
-      by_bool (tests w n i mine)
-      (λ e. ap (turn_of w n i mine) (reply-heard e) ∙ sym same.tester)
-      (λ e. finish-any e reply (reply_to w n t kind i) ∙ sym same.tester)
-
-  pub outcome-heard : outcome w n i mine reply ≡ turn_outcome w n t kind i
-  outcome-heard =
-      by_bool (tests w n i mine)
-      (λ e. ap (outcome w n i mine) (reply-heard e) ∙ sym same.outcome_number)
-      (λ e. pass-outcome w n i mine e reply ∙ sym (pass-outcome w n i mine e (reply_to w n t kind i)) ∙ sym same.outcome_number)
-
--- the entry that the master makes of an end is a turn, and the line aside is the table's after it
+-- the entry that the master makes of an end is a turn, the line aside is the table's after it, and its outcome is that of the end
 pub turn-entry : (c : Bool) (i : ℕ) → is_crash (entry_of (cond c 2 1) i) ≡ false
 turn-entry true i = refl
 turn-entry false i = refl
 
-pub own-turn : (w n : ℕ) (t : List ℕ) (a : Accepted w n t) (x : End) → x.from < n → (reply : Option (List ℕ)) → Heard w n t x.from reply
-    → x.outcome ≡ outcome w n x.from (line n t x.from) reply
-    → turn_of w n x.from (line n t x.from) reply ≡ line n (acted w n t (entry_by w n t x)) x.from
-unfolding acted
-own-turn w n t a x low reply heard o =
-    rw (turn-entry (eqb x.outcome 3 && live n t (turn_tested w n t x.from)) x.from, o) (turn-heard w n t a x.from low reply heard)
+module _ (w n : ℕ) (s : State) (a : Accepted w n s.table) (x : End) (ok : entry_refusal n s (entry_by w n s.table x) ≡ 0)
+    (reply : Option (List ℕ)) (heard : Heard w n s.table x.from reply)
+    (says : tester_answer w n x.from (line n s.table x.from) reply ≡ Ok x.outcome) where
+  facts : Takes n s (entry_by w n s.table x)
+  facts = entry-facts n s (entry_by w n s.table x) ok
 
-pub own-outcome : (w n : ℕ) (t : List ℕ) (a : Accepted w n t) (x : End) → x.from < n → (reply : Option (List ℕ)) → Heard w n t x.from reply
-    → x.outcome ≡ outcome w n x.from (line n t x.from) reply → entry_outcome w n t (entry_by w n t x) ≡ x.outcome
-unfolding entry_outcome
-own-outcome w n t a x low reply heard o =
-    rw (turn-entry (eqb x.outcome 3 && live n t (turn_tested w n t x.from)) x.from, o) (sym (outcome-heard w n t a x.from low reply heard))
+  no-crash : is_crash (entry_by w n s.table x) ≡ false
+  no-crash = turn-entry (eqb x.outcome 3 && live n s.table (turn_tested w n s.table x.from)) x.from
+
+  going : finished n s.table x.from ≡ 1 → ⊥
+  going = facts.unfinished (eqb-false (entry_by w n s.table x).kind 3 no-crash)
+
+  is-turn : IsTurn w n s.table a x.from facts.below facts.is_live going reply x.outcome
+  is-turn = turn-heard w n s.table a x.from facts.below facts.is_live going reply heard x.outcome says
+
+  pub own-turn : tester_after w n x.from (line n s.table x.from) reply ≡ line n (acted w n s.table (entry_by w n s.table x)) x.from
+  unfolding acted
+  own-turn = rw no-crash is-turn.line_aside
+
+  pub own-outcome : entry_outcome w n s.table (entry_by w n s.table x) ≡ x.outcome
+  unfolding entry_outcome
+  own-outcome = rw no-crash (sym is-turn.outcome)
+
+-- a row that the tester sends as it was at its test, and what the board tested makes of it
+exchanged-before : (w n : ℕ) (t : List ℕ) (a : Accepted w n t) (kind i : ℕ) (h : i < n) → live n t i ≡ true → (finished n t i ≡ 1 → ⊥)
+    → (k : ℕ) → k < n → k ≡ turn_tested w n t i → turn_outcome w n t kind i ≡ 1
+    → exchanged_after w n k (line n t k) i (pack n (row_of n (line n t i))) ≡ line n (turn w n t kind i) k
+unfolding received message
+exchanged-before w n t a kind i h alive going k hk e o =
+    let z : numbered_table_refusal w n t ≡ 0 = accepted-number w n t a in
+    let same : SameTurn w n t kind i = same-turn w n t kind i z h in
+    let lives : live n t k ≡ true = ap (live n t) e ∙ answering w n t kind i z h alive going (λ q. omega (arith, o, q)) (λ q. omega (arith, o, q)) in
+    let makes : makes_test w n t i ≡ true =
+    by_bool (makes_test w n t i) (λ m. m) (λ m. absurd (omega (arith, e, hk, none-tested w n t kind i a.long h m, size_top n a.size))) in
+    let apart : i ≢ k = λ q. tested-apart w n t i a.long h makes (accepted-line w n t a i h).pass.next_low (q ∙ e) in
+    let ok = exchanged-ok w n k (line n t k) (live-ok w n t k z hk lives) i h apart in
+    let comes : row_of_packed n i (pack n (row_of n (line n t i))) ≡ row_of n (line n t i) =
+    rw (line-row n t i a.long h) (rows-travel w n t i z h) in
+    rw (pack-length n (row_of n (line n t i)), ok, comes)
+    (sym (same.tested_line k hk e ∙ rw (sym same.outcome_number ∙ o) refl))
 
 -- an entry that is taken: what it makes of the line of each board that can put it in force
 module _ (w n : ℕ) (s : State) (a : Accepted w n s.table) (e : Entry) (taken : entry_refusal n s e ≡ 0) where
@@ -153,7 +233,7 @@ module _ (w n : ℕ) (s : State) (a : Accepted w n s.table) (e : Entry) (taken :
   takes = entry-facts n s e taken
 
   module _ (k : ℕ) (hk : k < n) (b : Board) (holds : b.line ≡ line n t k) (heard : Option End)
-      (row_true : (r : List ℕ) → row_heard b i heard ≡ Some r → r ≡ row_of n (line n t i))
+      (row_true : (r : List ℕ) → row_heard b i heard ≡ Some r → r ≡ row_from w n i (line n t i))
       (own_true : is_crash e ≡ false → k ≡ i → b.aside ≡ Some (line n (acted w n t e) i)) where
     own : k ≡ i → (l : List ℕ) → own_line b note ≡ Some l → l ≡ line n (acted w n t e) k
     unfolding own_line acted crash
@@ -176,12 +256,12 @@ module _ (w n : ℕ) (s : State) (a : Accepted w n s.table) (e : Entry) (taken :
       unfolding acted
       acts = rw c
 
-      other : k ≢ turn_tested w n t i → line n (acted w n t e) k ≡ b.line
-      other nj = rw acts (same_turn.others k hk apart nj ∙ sym holds)
+      open_pass : finished n t i ≡ 1 → ⊥
+      open_pass = takes.unfinished (eqb-false e.kind 3 c)
 
-      received_here : k ≡ turn_tested w n t i
-          → line n (acted w n t e) k ≡ received n k i b.line (message (row_of n (line n t i)) (turn_outcome w n t e.kind i))
-      received_here q = rw (acts, holds, same_turn.outcome_number) (same_turn.tested_line k hk q)
+      other : (k ≡ turn_tested w n t i → (turn_outcome w n t e.kind i ≢ 5) × (turn_outcome w n t e.kind i ≢ 1)) → line n (acted w n t e) k ≡ b.line
+      other quiet =
+          rw acts (others-keep w n t e.kind i (accepted-number w n t a) takes.below takes.is_live open_pass k hk apart quiet ∙ sym holds)
 
       outcome_here : note.outcome ≡ turn_outcome w n t e.kind i
       unfolding entry_outcome
@@ -191,31 +271,31 @@ module _ (w n : ℕ) (s : State) (a : Accepted w n s.table) (e : Entry) (taken :
       unfolding tested_of
       tested_here = rw c
 
-      joins : (r : Option (List ℕ)) → ((x : List ℕ) → r ≡ Some x → x ≡ row_of n (line n t i)) → (l : List ℕ)
-          → option_map (joined n k b.line) r ≡ Some l → l ≡ joined n k b.line (row_of n (line n t i))
+      joins : (r : Option (List ℕ)) → ((x : List ℕ) → r ≡ Some x → x ≡ row_from w n i (line n t i)) → (l : List ℕ)
+          → option_map (exchanged_after w n k b.line i) r ≡ Some l → l ≡ exchanged_after w n k b.line i (row_from w n i (line n t i))
       joins None is l made = absurd (none-some l made)
-      joins (Some x) is l made = sym (same_Some _ _ made) ∙ ap (joined n k b.line) (is x refl)
+      joins (Some x) is l made = sym (same_Some _ _ made) ∙ ap (exchanged_after w n k b.line i) (is x refl)
 
-      was_tested : k ≡ turn_tested w n t i → (l : List ℕ) → tested_line n k b note heard ≡ Some l → l ≡ line n (acted w n t e) k
-      unfolding tested_line received message
+      was_tested : k ≡ turn_tested w n t i → (l : List ℕ) → tested_line w n k b note heard ≡ Some l → l ≡ line n (acted w n t e) k
+      unfolding tested_line
       was_tested q l made =
           let o : ℕ = turn_outcome w n t e.kind i in
-          let here = received_here q in
+          let z : numbered_table_refusal w n t ≡ 0 = accepted-number w n t a in
           by_bool (eqb o 5)
           (λ x.
-          let z : Some (left_told b.line i) ≡ Some l = rw (outcome_here, x) at made in
-          let now : line n (acted w n t e) k ≡ left_told b.line i = rw x at here in
-          sym (same_Some _ _ z) ∙ sym now)
+          let made : Some (told_after w n k b.line i) ≡ Some l = rw (outcome_here, x) at made in
+          sym (same_Some _ _ made)
+          ∙ rw (holds, acts) (told-leaves w n t e.kind i z takes.below takes.is_live open_pass k hk q (eqb-true o 5 x)))
           (λ x.
           by_bool (eqb o 1)
           (λ y.
-          let z : option_map (joined n k b.line) (row_heard b i heard) ≡ Some l = rw (outcome_here, x, y) at made in
-          let now : line n (acted w n t e) k ≡ joined n k b.line (row_of n (line n t i)) = rw (x, y) at here in
-          joins (row_heard b i heard) row_true l z ∙ sym now)
+          let made : option_map (exchanged_after w n k b.line i) (row_heard b i heard) ≡ Some l = rw (outcome_here, x, y) at made in
+          joins (row_heard b i heard) row_true l made
+          ∙ rw (holds, acts, row-written w n t a i takes.below takes.is_live)
+          (exchanged-before w n t a e.kind i takes.below takes.is_live open_pass k hk q (eqb-true o 1 y)))
           (λ y.
-          let z : Some b.line ≡ Some l = rw (outcome_here, x, y) at made in
-          let now : line n (acted w n t e) k ≡ b.line = rw (x, y) at here in
-          sym (same_Some _ _ z) ∙ sym now))
+          let made : Some b.line ≡ Some l = rw (outcome_here, x, y) at made in
+          sym (same_Some _ _ made) ∙ sym (other (λ _. (eqb-false o 5 x, eqb-false o 1 y)))))
 
     -- in a crash
     module _ (c : is_crash e ≡ true) (apart : k ≢ i) where
@@ -227,22 +307,22 @@ module _ (w n : ℕ) (s : State) (a : Accepted w n s.table) (e : Entry) (taken :
       unfolding tested_of
       none_tested = rw c
 
-    pub line-made : (l : List ℕ) → line_by n k b note heard ≡ Some l → l ≡ line n (acted w n t e) k
+    pub line-made : (l : List ℕ) → line_by w n k b note heard ≡ Some l → l ≡ line n (acted w n t e) k
     unfolding line_by
     line-made l made = pick (ℕ_discrete k i)
       where
         shape : (x : ℕ) → note.tested ≡ x
-            → cond (eqb k i) (own_line b note) (cond (eqb k x) (tested_line n k b note heard) (Some b.line)) ≡ Some l
+            → cond (eqb k i) (own_line b note) (cond (eqb k x) (tested_line w n k b note heard) (Some b.line)) ≡ Some l
         shape x q =
-            ap (λ (x : ℕ). cond (eqb k i) (own_line b note) (cond (eqb k x) (tested_line n k b note heard) (Some b.line))) (sym q) ∙ made
+            ap (λ (x : ℕ). cond (eqb k i) (own_line b note) (cond (eqb k x) (tested_line w n k b note heard) (Some b.line))) (sym q) ∙ made
 
         turned : is_crash e ≡ false → k ≢ i → Dec (k ≡ turn_tested w n t i) → l ≡ line n (acted w n t e) k
         turned c d (yes q) =
-            let z : tested_line n k b note heard ≡ Some l = rw (ne_eqb k i d, eq-eqb k (turn_tested w n t i) q) at (shape (turn_tested w n t i) (tested_here c d)) in
+            let z : tested_line w n k b note heard ≡ Some l = rw (ne_eqb k i d, eq-eqb k (turn_tested w n t i) q) at (shape (turn_tested w n t i) (tested_here c d)) in
             was_tested c d q l z
         turned c d (no nj) =
             let z : Some b.line ≡ Some l = rw (ne_eqb k i d, ne_eqb k (turn_tested w n t i) nj) at (shape (turn_tested w n t i) (tested_here c d)) in
-            sym (same_Some _ _ z) ∙ sym (other c d nj)
+            sym (same_Some _ _ z) ∙ sym (other c d (λ q. absurd (nj q)))
 
         pick : Dec (k ≡ i) → l ≡ line n (acted w n t e) k
         pick (yes q) = let z : own_line b note ≡ Some l = rw (eq-eqb k i q) at made in own q l z
@@ -255,9 +335,12 @@ module _ (w n : ℕ) (s : State) (a : Accepted w n s.table) (e : Entry) (taken :
             (λ c. turned c d (ℕ_discrete k (turn_tested w n t i)))
 
     -- and with the closing
-    pub line-after : (l : List ℕ) → line_by n k b note heard ≡ Some l → cond note.closed (round_closed l) l ≡ line n (after w n s e).table k
+    pub line-after : (l : List ℕ) → line_by w n k b note heard ≡ Some l → cond note.closed (closed_after w n k l) l ≡ line n (after w n s e).table k
     unfolding after after_round
     line-after l made =
-        by_bool (round_over n (acted w n t e))
-        (λ o. rw (o, line-made l made) (sym (boards-close n (acted w n t e) (acted-lines w n s e a taken).0 k hk)))
+        let u : List ℕ = acted w n t e in
+        let lines = acted-lines w n s e a taken in
+        let ok : line_check w n k (line n u k) ≡ Ok tt = line-ok w n u k a.wired a.size lines.0 hk (line-holds w n u k (lines.1 k hk)) in
+        by_bool (round_over n u)
+        (λ o. rw (o, line-made l made, ok) (sym (boards-close n u lines.0 k hk)))
         (λ o. rw o (line-made l made))

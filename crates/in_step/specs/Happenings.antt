@@ -1,41 +1,50 @@
 -- What may happen on a cable that loses, doubles and delays frames. A frame that is lost never comes, one that is doubled comes twice, and one that is
 -- late comes after others: so each frame that was sent may come at any time after that, to any board, as often as may be.
 -- Assumes nothing.
-use Rattle.std.specs.Prelude.{ℕ, suc, ◌&&◌, List, [], ◌∷◌, ◌++◌, length, Option, None, Some, is_none, slice_get, if◌then◌else◌, ◌==◌, nat_lt}
+use Rattle.std.specs.Prelude.{ℕ, suc, ◌&&◌, List, [], ◌∷◌, ◌++◌, length, Option, None, Some, Result, Ok, Err, is_none, slice_get, if◌then◌else◌, ◌==◌, nat_lt}
 use Rattle.table.specs.Table.{live}
-use Rattle.table.specs.Line.{row_of, is_live}
+use Rattle.table.specs.Line.{is_live}
 use Rattle.station.specs.Outcome.{outcome_no_reply}
 use Rattle.plant.specs.Turn.{kind_turn, kind_late, kind_crash, turn_tested}
 use Rattle.plant.specs.Entry.{Entry, State, entry_of, entry_refusal}
-use Rattle.board.specs.Board.{tested, turn_of, outcome, round_closed}
+use Rattle.board.specs.Calls.{next_answer, closed_after}
+use Rattle.cable.specs.Boards.{row_from, named, tester_after, tester_answer}
+use Rattle.lists.specs.declared.refusal.Refusal.{Refusal}
 use Rattle.in_step.specs.System.{Board, Reply, End, System, after_all, table_at, Note, note_of, line_by}
 
 -- the system with board k become b
 abbrev pub with_board : System → ℕ → Board → System
 with_board y k b = record y { boards = λ i. if i == k then b else y.boards i }
 
--- Rules Answers in step and Silent: board j replies to a test of the turn that follows the entries in force at it, if it is live. Nothing else changes
-unfoldable pub reply_sent : ℕ → System → ℕ → ℕ → System
-reply_sent n y j turn =
+-- Rules Answers in step and Silent: board j replies to a test of the turn that follows the entries in force at it, if it is live: with its row, by call
+-- board row. Nothing else changes
+unfoldable pub reply_sent : ℕ → ℕ → System → ℕ → ℕ → System
+reply_sent w n y j turn =
     let b = y.boards j in
     if nat_lt j n && is_live b.line && turn == suc b.in_force
-    then record y { replies = (record { turn = turn; from = j; row = row_of n b.line }) ∷ y.replies } else y
+    then record y { replies = (record { turn = turn; from = j; packed = row_from w n j b.line }) ∷ y.replies } else y
 
--- Rule Board's turn: with the row replied, or none, board i computes its line aside, and sends how its turn ended. It does so once: not again until
--- the next entry is in force at it. That it was granted the turn, and is live, is not asked: the master takes no end of another board
+-- by what its call answered: board i keeps aside the line that the call left, and sends how its turn ended. A call that is refused does nothing
+unfoldable pub turn_ended : ℕ → ℕ → System → ℕ → List ℕ → Result ℕ Refusal → System
+turn_ended w n y i mine (Err r) = y
+turn_ended w n y i mine (Ok outcome) =
+    let b = y.boards i in
+    let x : End = record { turn = suc b.in_force; from = i; outcome = outcome; packed = row_from w n i b.line } in
+    with_board (record y { ends = x ∷ y.ends }) i (record b { aside = Some mine })
+
+-- Rule Board's turn: on a copy of its line board i makes call board replied, or board not replied. It does so once: not again until the next entry is
+-- in force at it. That it was granted the turn is not asked: the master takes one end of a turn only
 unfoldable pub turn_made : ℕ → ℕ → System → ℕ → Option (List ℕ) → System
 turn_made w n y i reply =
-    let b = y.boards i in
-    let x : End = record { turn = suc b.in_force; from = i; outcome = outcome w n i b.line reply; row = row_of n b.line } in
-    if is_none b.aside
-    then with_board (record y { ends = x ∷ y.ends }) i (record b { aside = Some (turn_of w n i b.line reply) }) else y
+    let l = (y.boards i).line in
+    if is_none (y.boards i).aside then turn_ended w n y i (tester_after w n i l reply) (tester_answer w n i l reply) else y
 
--- a reply is taken if it is one to the test of this turn, from the board that is tested in it. Any other is thrown away
+-- a reply is taken if it is one to the test of this turn, from the board that call board next names. Any other is thrown away
 unfoldable pub reply_heard : ℕ → ℕ → System → ℕ → Option Reply → System
 reply_heard w n y i None = y
 reply_heard w n y i (Some r) =
     let b = y.boards i in
-    if r.turn == suc b.in_force && r.from == tested w n i b.line then turn_made w n y i (Some r.row) else y
+    if r.turn == suc b.in_force && r.from == named (next_answer w n i b.line) then turn_made w n y i (Some r.packed) else y
 
 -- the master makes an entry, if a run would take it
 unfoldable pub entry_made : ℕ → ℕ → State → System → Entry → System
@@ -52,13 +61,13 @@ end_heard w n s y None = y
 end_heard w n s y (Some x) =
     if x.turn == suc (length y.entries) then entry_made w n s y (entry_by w n (after_all w n s y.entries).table x) else y
 
--- the entry of the note is in force at board k, with the line that it made of it, closed if the entry closed the round; and the turn that the board
--- made, if any, is over. If it could make none, nothing is done
-unfoldable pub put_in_force : System → ℕ → Note → Option (List ℕ) → System
-put_in_force y k note None = y
-put_in_force y k note (Some l) =
+-- the entry of the note is in force at board k, with the line that it made of it, closed by call board round closed if the entry closed the round; and
+-- the turn that the board made, if any, is over. If it could make no line, nothing is done
+unfoldable pub put_in_force : ℕ → ℕ → System → ℕ → Note → Option (List ℕ) → System
+put_in_force w n y k note None = y
+put_in_force w n y k note (Some l) =
     let b = y.boards k in
-    with_board y k (record { in_force = suc b.in_force; line = if note.closed then round_closed l else l; aside = None })
+    with_board y k (record { in_force = suc b.in_force; line = if note.closed then closed_after w n k l else l; aside = None })
 
 -- the note of entry m, from 0, is taken if that is the board's next entry. Any other note does nothing
 unfoldable pub note_heard : ℕ → ℕ → State → System → ℕ → ℕ → Option Entry → Option End → System
@@ -66,7 +75,7 @@ note_heard w n s y k m None heard = y
 note_heard w n s y k m (Some e) heard =
     let b = y.boards k in
     let note : Note = note_of w n (table_at w n s y.entries m) e in
-    if m == b.in_force then put_in_force y k note (line_by n k b note heard) else y
+    if m == b.in_force then put_in_force w n y k note (line_by w n k b note heard) else y
 
 -- what may happen
 pub data Happening : Type 0 where
@@ -84,7 +93,7 @@ pub data Happening : Type 0 where
   note_comes : ℕ → ℕ → ℕ → Happening
 
 abbrev pub after_happening : ℕ → ℕ → State → System → Happening → System
-after_happening w n s y (test_comes j turn) = reply_sent n y j turn
+after_happening w n s y (test_comes j turn) = reply_sent w n y j turn
 after_happening w n s y (reply_comes i x) = reply_heard w n y i (slice_get y.replies x)
 after_happening w n s y (none_comes i) = turn_made w n y i None
 after_happening w n s y (end_comes x) = end_heard w n s y (slice_get y.ends x)

@@ -7,7 +7,7 @@ use Rattle.table.specs.Line.{line}
 use Rattle.table.specs.Rules.{round_over}
 use Rattle.station.specs.Outcome.{outcome_exchanged, outcome_tested_told}
 use Rattle.plant.specs.Entry.{Entry, State, is_crash, acted, after, tested_of, outcome_of}
-use Rattle.board.specs.Board.{left_told, joined}
+use Rattle.board.specs.Calls.{told_after, exchanged_after}
 
 -- what a board keeps: how many entries are in force at it; its line; and, once it has made its turn with just these in force, the line that it
 -- computed aside
@@ -16,19 +16,19 @@ pub record Board : Type 0 where
   pub line : List ℕ
   pub aside : Option (List ℕ)
 
--- a board's reply to a test: the number of the turn, the board that replies, and its row
+-- a board's reply to a test: the number of the turn, the board that replies, and its row, packed
 pub record Reply : Type 0 where
   pub turn : ℕ
   pub from : ℕ
-  pub row : List ℕ
+  pub packed : List ℕ
 
--- what a tester sends at the end of its turn: the number of the turn, the tester, the outcome, and its row as it was at the test, which is the
--- exchange if the outcome is 1
+-- what a tester sends at the end of its turn: the number of the turn, the tester, the outcome, and its row as it was at the test, packed, which is
+-- the exchange if the outcome is 1
 pub record End : Type 0 where
   pub turn : ℕ
   pub from : ℕ
   pub outcome : ℕ
-  pub row : List ℕ
+  pub packed : List ℕ
 
 -- everything: the entries that the master made, in their order; all replies and all ends that were ever sent; and the boards, by their numbers
 pub record System : Type 0 where
@@ -64,22 +64,24 @@ note_of w n t e = record { entry = e; tested = tested_of w n t e; outcome = outc
 -- the row that tester i sent in the turn that follows the entries in force at the board, if that is the end that the board heard
 unfoldable pub row_heard : Board → ℕ → Option End → Option (List ℕ)
 row_heard b i None = None
-row_heard b i (Some x) = if x.turn == suc b.in_force && x.from == i then Some x.row else None
+row_heard b i (Some x) = if x.turn == suc b.in_force && x.from == i then Some x.packed else None
 
 -- Rule In force, of a board's own entry: its status becomes 1, if it crashed; or the line computed aside becomes its line
 unfoldable pub own_line : Board → Note → Option (List ℕ)
 own_line b note = if is_crash note.entry then Some (set b.line status_column status_crashed) else b.aside
 
--- Rule In force, of board k that was tested: it is told, or it joins the row that the tester sent, which it must have heard; else its line stays
-unfoldable pub tested_line : ℕ → ℕ → Board → Note → Option End → Option (List ℕ)
-tested_line n k b note heard =
-    if note.outcome == outcome_tested_told then Some (left_told b.line note.entry.station)
-    else (if note.outcome == outcome_exchanged then option_map (joined n k b.line) (row_heard b note.entry.station heard)
+-- Rule In force, of board k that was tested, by its calls: board told; or board exchanged, with the row that the tester sent, which it must have heard;
+-- else its line stays
+unfoldable pub tested_line : ℕ → ℕ → ℕ → Board → Note → Option End → Option (List ℕ)
+tested_line w n k b note heard =
+    let i = note.entry.station in
+    if note.outcome == outcome_tested_told then Some (told_after w n k b.line i)
+    else (if note.outcome == outcome_exchanged then option_map (exchanged_after w n k b.line i) (row_heard b i heard)
     else Some b.line)
 
 -- Rule In force, of any board k: the line that it makes by the note of its next entry, before a closing; nothing if it cannot
-unfoldable pub line_by : ℕ → ℕ → Board → Note → Option End → Option (List ℕ)
-line_by n k b note heard =
+unfoldable pub line_by : ℕ → ℕ → ℕ → Board → Note → Option End → Option (List ℕ)
+line_by w n k b note heard =
     if k == note.entry.station then own_line b note
-    else (if k == note.tested then tested_line n k b note heard
+    else (if k == note.tested then tested_line w n k b note heard
     else Some b.line)
