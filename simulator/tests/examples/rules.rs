@@ -4,9 +4,9 @@
 use crate::documents::{due, group};
 use crate::plant::{driven, Plant, CUBE, RING};
 use simulator::{
-    assignment, board_exchanged, board_row, convert, converted_length, doubt_lamp, drive, figures,
-    join_totals, load, mend, read_input, save, saved_size, slot, totals, wait, Cable, Fraction,
-    Given, Slot, SCHEDULE_LENGTH, WORDS_LENGTH,
+    assignment, board_exchanged, board_next, board_replied, board_row, convert, converted_length,
+    doubt_lamp, drive, figures, join_totals, load, mend, read_input, save, saved_size, slot,
+    totals, wait, Cable, Fraction, Given, Slot, SCHEDULE_LENGTH, WORDS_LENGTH,
 };
 
 const RULES: &str = include_str!("../../../docs/RULES.md");
@@ -101,6 +101,24 @@ fn worked_run_on_the_ring() {
     let lines = [other, [1, 1, 0, 0, 255, 1, 0, 0, 0, 0], other, other];
     assert_eq!(plant.table, lines.concat());
     assert_eq!(of_boards, (sheet, lines.concat()));
+}
+
+#[test]
+fn second_entry_by_boards() {
+    let [zero, two] = [0, 2].map(|own| {
+        let (wiring, n) = (CUBE, 4);
+        Given { wiring, n, own }
+    });
+    let mut line = [0, 2, 0, 1, 255, 0, 0, 1, 0, 0];
+    let mut tested = [0, 1, 0, 0, 255, 0, 0, 0, 0, 0];
+    let mut row = [170];
+    assert_eq!(board_next(zero, &line), (0, 2));
+    assert_eq!((board_row(two, &tested, &mut row), row), (0, [0]));
+    assert_eq!(board_replied(zero, &mut line, &row), (0, 1));
+    assert_eq!((board_row(zero, &line, &mut row), row), (0, [2]));
+    assert_eq!(board_exchanged(two, &mut tested, 0, &row), 0);
+    assert_eq!(line, [0, 3, 0, 2, 255, 0, 0, 1, 0, 0]);
+    assert_eq!(tested, [0, 1, 0, 0, 255, 0, 0, 1, 0, 0]);
 }
 
 /// Of eleven boards 3 suspects 0, 2, 8 and 10, and joins a row of which all bits are 1: it takes

@@ -1,11 +1,11 @@
 //! Calls of a board. Its line is one of a table, and what it hears is mostly the row of another line of that table.
 
+use shared::groups::SIZES;
 use shared::random::Random;
-use shared::table::{line_length, live_stations, unfinished_stations, HEAD};
+use shared::table::{line_length, live_stations, unfinished_stations, HEAD, STATUS};
 use shared::wiring::Wiring;
 use simulator::{board_next, Given};
 
-use super::plants::wiring_number;
 use super::{lines, numbers, place, tables, Size};
 use crate::call::{size, Call};
 
@@ -16,14 +16,16 @@ pub fn call(wiring: Wiring, n: Size, random: &mut Random) -> Call {
     let table = tables::valid(wiring, n, random);
     let own = board_of(n, &table, random);
     let line = line_of(own, n, &table, random);
+    let number = wiring.number();
     let given = Given {
-        wiring: wiring.number(),
+        wiring: number,
         n,
         own: own as u8,
     };
+    // Any, where it is none.
     let tested = usize::from(board_next(given, &line).1);
     let other = (own + random.between(1, n - 1)) % n;
-    let [wiring, asked, own_given, line] = arguments(given, line, random);
+    let [wiring, asked, own_given, line] = arguments(wiring, own, n, line, random);
     match random.below(21) {
         0 | 20 => Call::new("vcube_board_fresh", [wiring, asked, own_given, line]),
         1 | 2 => Call::new(
@@ -102,23 +104,35 @@ fn line_of(own: usize, n: Size, table: &[u8], random: &mut Random) -> Vec<u8> {
     line
 }
 
-/// Wiring, size, board and line, of which now and then one is wrong.
-fn arguments(given: Given, mut line: Vec<u8>, random: &mut Random) -> [Vec<u8>; 4] {
-    let (n, own) = (given.n, usize::from(given.own));
-    let wiring = match given.wiring {
-        1 => Wiring::Cube,
-        _ => Wiring::Ring,
+/// Wiring, size, board and line, of which now and then one is wrong, or several are.
+fn arguments(
+    wiring: Wiring,
+    own: usize,
+    n: Size,
+    mut line: Vec<u8>,
+    random: &mut Random,
+) -> [Vec<u8>; 4] {
+    let often = random.once_in(12);
+    let mut number = numbers::given_wiring(wiring, random);
+    if often && random.once_in(3) {
+        number = 0;
+    }
+    let asked = match often && random.once_in(3) {
+        true => random.pick(&[0, 1, 65]),
+        false => numbers::given_size(n, random),
     };
-    let asked = numbers::given_size(n, random);
-    let board = match random.once_in(16) {
-        true => numbers::station(n, random),
+    let board = match random.once_in(if often { 2 } else { 24 }) {
+        true => no_board(own, n, random),
         false => own,
     };
-    let right = match asked < BITS * BITS && random.once_in(2) {
+    if often && random.once_in(2) {
+        line[STATUS] = random.between(4, 255) as u8;
+    }
+    let right = match SIZES.contains(&asked) && random.once_in(2) {
         true => line_length(asked),
         false => line_length(n),
     };
-    let length = match random.below(60) {
+    let length = match random.below(if often { 6 } else { 60 }) {
         0 => right - 1,
         1 => right + 1,
         // Without its head.
@@ -126,20 +140,25 @@ fn arguments(given: Given, mut line: Vec<u8>, random: &mut Random) -> [Vec<u8>; 
         _ => numbers::length(right, random),
     };
     tables::resize(&mut line, length, random);
-    [
-        wiring_number(wiring, random),
-        size(asked),
-        size(board),
-        line,
-    ]
+    [size(number), size(asked), size(board), line]
+}
+
+/// A number that no board has.
+fn no_board(own: usize, n: Size, random: &mut Random) -> usize {
+    match random.below(5) {
+        0 => n,
+        1 => n + random.below(200),
+        2 => random.pick(&[64, 255, 256, usize::MAX]),
+        3 => usize::MAX - random.below(300),
+        _ => numbers::alias(own, random),
+    }
 }
 
 /// The other station, or now and then a number that no other has.
 fn sender(own: usize, other: usize, n: Size, random: &mut Random) -> Vec<u8> {
     size(match random.below(10) {
         0 => own,
-        1 => numbers::station(n, random),
-        2 => numbers::alias(other, random),
+        1 => no_board(other, n, random),
         _ => other,
     })
 }
@@ -177,7 +196,7 @@ fn heard(own: usize, from: usize, n: Size, table: &[u8], random: &mut Random) ->
     if random.once_in(3) {
         put(from, 1);
     }
-    if random.once_in(3) && n % BITS != 0 {
+    if random.once_in(3) && !n.is_multiple_of(BITS) {
         packed[n / BITS] |= random.byte() << (n % BITS);
     }
     if random.once_in(8) {

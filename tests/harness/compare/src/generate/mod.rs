@@ -49,7 +49,7 @@ impl fmt::Display for Source {
 impl Source {
     /// The call with this number. Each sixth is one of a board; the others have numbers of their own.
     pub fn call(self, number: u64) -> Call {
-        let of_board = !self.is_long && number % OF_BOARDS == 0;
+        let of_board = !self.is_long && number.is_multiple_of(OF_BOARDS);
         let number = match self.is_long || of_board {
             true => number,
             false => number - number / OF_BOARDS,

@@ -14,7 +14,7 @@ const CHANGE: usize = 4;
 /// From this size on a drive past the dead of half a ring has 256 grants or more.
 const LONG_WAY: Size = 34;
 
-pub fn wiring_number(wiring: Wiring, random: &mut Random) -> Vec<u8> {
+fn wiring_number(wiring: Wiring, random: &mut Random) -> Vec<u8> {
     size(numbers::given_wiring(wiring, random))
 }
 
