@@ -3,3 +3,4 @@ pub mod Rounds
 pub mod FirstTable
 pub mod BoardsDetect
 pub mod FreshBegin
+pub mod Computed

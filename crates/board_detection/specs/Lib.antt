@@ -1,2 +1,3 @@
 -- What the contracts of `board_detection` cite.
 pub mod Detect
+pub mod Example

@@ -2,6 +2,7 @@
 
 ghost use Rattle.detection.specs.Claim.{square_rounds, triangle_rounds, worst_rounds};
 ghost use Rattle.board_detection.specs.Detect.{BoardsDetect, FreshBoardsBegin};
+ghost use Rattle.board_detection.specs.Example.{FourBoards, FourOnRing};
 
 // After d·d closed rounds on the cube, n − 1 on the ring, each live board's line suspects just the boards that are not live, and the tests are
 // those counted.
@@ -22,4 +23,14 @@ pub fn boards_detect_in_worst_case()
 // Boards whose lines are fresh meet what is supposed of boards, on each wiring.
 pub fn fresh_boards_begin()
     ensures { FreshBoardsBegin }
+{}
+
+// Four boards on the cube, board 3 dead: they meet what is supposed of boards, and three rounds of seven tests close. Computed.
+pub fn four_boards()
+    ensures { FourBoards }
+{}
+
+// Four boards on the ring, board 1 dead: three rounds of four tests close. Computed.
+pub fn four_on_ring()
+    ensures { FourOnRing }
 {}
