@@ -16,13 +16,14 @@ export VCUBE_LIB_DIR := $(CURDIR)/target/staticlib
 endif
 export CARGO_TARGET_DIR ?= $(CURDIR)/target/cargo
 
-.PHONY: all help archive programs aarch64 wasm portable page kept-page install install-programs uninstall words layers FORCE
+.PHONY: all help archive programs aarch64 wasm portable portable-board page kept-page install install-programs uninstall words layers FORCE
 all: archive programs ## the archive and the three programs
 archive: $(archive) ## target/staticlib/libvcube.a, for C, C++ and Rust on x86-64
 programs: $(programs:%=target/bin/%) ## target/bin/watch, sheet and convert
 aarch64: target/aarch64/libvcube.a ## target/aarch64/libvcube.a, the archive for Linux on 64-bit ARM
 wasm: target/wasm/vcube.wasm ## target/wasm/vcube.wasm, a WebAssembly module with 32-bit memory
 portable: target/portable/vcube_portable.c ## target/portable/, C for any C99 compiler: compile vcube_portable.c there
+portable-board: target/portable-board/vcube_portable_board.c ## target/portable-board/, the same of a board's calls on its own line alone
 page: target/vcube.html ## target/vcube.html, the page that shows a plant, live
 
 help:
@@ -107,27 +108,52 @@ target/aarch64/libvcube.a: target/staticlib/libvcube.a
 	@$(call in_copy,vcube staticlib,--target aarch64-unknown-linux-gnu)
 	cp "$$copy/crates/vcube/out/libvcube.a" $@
 
+wasm_features := --enable-bulk-memory --enable-sign-ext --enable-mutable-globals
+
 # rt links a module with 64-bit memory. wasm-opt makes 32-bit memory of it, which all browsers know. The stack stands below the address 65,536.
 target/wasm/vcube.wasm: target/staticlib/libvcube.a
 	@$(call needs,wasm-opt,binaryen)
 	$(call in_copy,vcube wasm64 stack=65536)
-	wasm-opt --enable-memory64 --enable-bulk-memory --enable-sign-ext --enable-mutable-globals --memory64-lowering -O2 \
+	wasm-opt --enable-memory64 $(wasm_features) --memory64-lowering -O2 \
 	    "$$copy/crates/vcube/out/vcube.wasm" -o $@
 
-# wasm2c's ways to the memory get other names, as vcube_portable.c has its own. The constants go up to the heap: the module leaves out the zeros
-# at their end.
-portable_parts := include/vcube.h bindings/portable/vcube_portable.c $(wildcard /usr/include/wasm-rt.h)
-target/portable/vcube_portable.c: target/wasm/vcube.wasm $(portable_parts)
+# MODULE: C of a module, which vcube_portable_module.h includes. wasm2c's ways to the memory get other names, as that header has its own. The
+# constants go up to the heap: the module leaves out the zeros at their end.
+define module_in_c
+$(call needs,wasm2c,wabt)
+wasm2c --no-debug-names -n vcube_module $1 -o $(@D)/vcube_module.c
+heap=$$(sed -nE 's/^  instance->w2c___heap_base = ([0-9]+)ull;$$/\1/p' $(@D)/vcube_module.c)
+sed -Ei "s/^(#define|static inline void) (LOAD_DATA|DEFINE_LOAD|DEFINE_STORE|memory_fill|memory_copy)\(/\1 wasm2c_\2(/
+    s/^static const u8 data_segment_data_w2c_d0\[\]/static const u8 vcube_constants[$$((heap - 65536))]/
+    s/data_segment_data_w2c_d0/vcube_constants/" $(@D)/vcube_module.c
+cp $(filter %.h,$^) $(@F:%=bindings/portable/%) $(@D)/
+endef
+
+portable_parts := include/vcube.h $(wildcard bindings/portable/*.h /usr/include/wasm-rt.h)
+target/portable/vcube_portable.c: target/wasm/vcube.wasm bindings/portable/vcube_portable.c $(portable_parts)
 	@echo 'building $@ ..' >&2
-	$(call needs,wasm2c,wabt)
 	rm -rf $(@D)
 	mkdir -p $(@D)
-	wasm2c --no-debug-names -n vcube_module $< -o $(@D)/vcube_module.c
-	heap=$$(sed -nE 's/^  instance->w2c___heap_base = ([0-9]+)ull;$$/\1/p' $(@D)/vcube_module.c)
-	sed -Ei "s/^(#define|static inline void) (LOAD_DATA|DEFINE_LOAD|DEFINE_STORE|memory_fill|memory_copy)\(/\1 wasm2c_\2(/
-	    s/^static const u8 data_segment_data_w2c_d0\[\]/static const u8 vcube_constants[$$((heap - 65536))]/
-	    s/data_segment_data_w2c_d0/vcube_constants/" $(@D)/vcube_module.c
-	cp $(portable_parts) $(@D)/
+	$(call module_in_c,$<)
+
+# Of the module what a board's calls reach. They read no constants, and those go: where one is read after all, its address is found.
+target/portable-board/vcube_portable_board.c: target/wasm/vcube.wasm bindings/portable/vcube_portable_board.c $(portable_parts)
+	@echo 'building $@ ..' >&2
+	$(call needs,wasm-metadce,binaryen)
+	rm -rf $(@D)
+	mkdir -p $(@D)
+	made=$$(mktemp -d)
+	trap 'rm -rf "$$made"' EXIT
+	sed -nE 's/.*CALL\((vcube_board_[a-z_]+),.*/{ "name": "\1", "root": true, "export": "\1" }/p' bindings/portable/vcube_portable_board.h |
+	    paste -sd , | sed 's/^/[/; s/$$/]/' >"$$made/graph"
+	wasm-metadce $(wasm_features) $< --graph-file="$$made/graph" -o "$$made/board.wasm" >/dev/null
+	wasm-dis "$$made/board.wasm" | sed '/^ (data /d' >"$$made/board.wat"
+	if grep -v '^ (global' "$$made/board.wat" | grep -E '(const |offset=)(6553[6-9]|655[4-9][0-9]|65[6-9][0-9]{2}|6[6-9][0-9]{3}|[7-9][0-9]{4}|1[0-2][0-9]{4})\b' >&2; then
+	    echo 'a call of a board reads constants of the module' >&2
+	    exit 1
+	fi
+	wasm-as $(wasm_features) "$$made/board.wat" -o "$$made/board.wasm"
+	$(call module_in_c,"$$made/board.wasm")
 
 target/vcube.html: target/wasm/vcube.wasm $(wildcard browser/* samples/*)
 	@echo 'building $@ ..' >&2

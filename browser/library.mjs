@@ -32,6 +32,7 @@ export const told_by = (state, board) => state.table[line_of(state, board) + 4];
 export const rounds_ago = (state, board) => state.table[line_of(state, board) + 5];
 export const suspects = (state, board, other) => state.table[line_of(state, board) + HEAD + other] === 1;
 export const is_live = (state, board) => status_of(state, board) === LIVE;
+const own_line = (state, board) => state.table.subarray(line_of(state, board), line_of(state, board) + state.n + HEAD);
 export const row_of = (state, board) => state.table.subarray(line_of(state, board) + HEAD, line_of(state, board) + HEAD + state.n);
 export const copy_of = (state) => ({ ...state, table: state.table.slice() });
 
@@ -110,6 +111,13 @@ export class Library {
         const [rounds, tests, taken] = [new Cell(4, state.rounds), new Cell(4, state.tests), new Cell(8)];
         this.module.call('vcube_run', BigInt(state.wiring), BigInt(state.n), state.table, rounds, tests, schedule, sheet, taken);
         [state.rounds, state.tests] = [rounds.value, tests.value];
+    }
+
+    /// The row of a live board as it goes over the cable, by its line of the table.
+    packed_row(state, board) {
+        const packed = new Uint8Array((state.n + 7) >> 3);
+        this.module.call('vcube_board_row', BigInt(state.wiring), BigInt(state.n), BigInt(board), own_line(state, board), packed);
+        return packed;
     }
 
     grant(state, last) {

@@ -3,6 +3,7 @@ import { CRASH, CUBE, LATE_TURN, Library, MOST_ENTRIES, NO_STATION, REFUSED, RIN
 import { copy_of, is_live, lines_of_saved, status_of, suspects, told_by } from './library.mjs';
 import { Boards, Matrix, ago_text, suspected_by, told_text } from './tables.mjs';
 import { Circle, legend } from './circle.mjs';
+import { Messages } from './messages.mjs';
 import { Module } from './module.mjs';
 import { NOT_ASKED, Plant } from './plant.mjs';
 import { by_id, make, set_attribute, set_class, set_text } from './elements.mjs';
@@ -36,6 +37,7 @@ let offer;
 const circle = new Circle(by_id('circle'), select);
 const boards = new Boards(by_id('boards'), select);
 const matrix = new Matrix(by_id('matrix'));
+const messages_shown = new Messages(by_id('messages'), by_id('no-messages'));
 
 /// Says something below. What can be brought back stays offered beside it.
 function say(text, kind = 'note') {
@@ -139,6 +141,7 @@ function show() {
     circle.show(plant, names, selected, lamp);
     boards.show(plant, names, selected, timed);
     matrix.show(plant);
+    messages_shown.show(plant, names);
     show_facts(lamp, until);
     show_board(timed);
     show_history();

@@ -18,64 +18,17 @@
  */
 #include "vcube.h"
 
-#include <limits.h>
-#include <string.h>
-
-#if CHAR_BIT != 8
-#error "vcube: bytes have 8 bits here"
-#endif
-
-#ifndef VCUBE_PORTABLE_STATIONS
-#define VCUBE_PORTABLE_STATIONS 64
-#endif
 #ifndef VCUBE_PORTABLE_RESULTS
 #define VCUBE_PORTABLE_RESULTS VCUBE_MOST_RESULTS
-#endif
-#ifndef VCUBE_PORTABLE_LOCAL
-#define VCUBE_PORTABLE_LOCAL
-#endif
-#ifndef VCUBE_PORTABLE_TRAP
-#if defined(__GNUC__)
-#define VCUBE_PORTABLE_TRAP __builtin_trap();
-#else
-#define VCUBE_PORTABLE_TRAP for (;;) {}
-#endif
-#endif
-#if VCUBE_PORTABLE_STATIONS < 2 || VCUBE_PORTABLE_STATIONS > 64
-#error "vcube: VCUBE_PORTABLE_STATIONS is 2 to 64"
 #endif
 #if VCUBE_PORTABLE_RESULTS < 1 || VCUBE_PORTABLE_RESULTS > 4096
 #error "vcube: VCUBE_PORTABLE_RESULTS is 1 to 4096"
 #endif
 
-/* Whether a number of the processor has its low byte first, as the module's have. Where that is not known, numbers go byte by byte. */
-#if defined(__BYTE_ORDER__) && defined(__ORDER_LITTLE_ENDIAN__)
-#define IS_LOW_BYTE_FIRST (__BYTE_ORDER__ == __ORDER_LITTLE_ENDIAN__)
-#else
-#define IS_LOW_BYTE_FIRST 0
-#endif
-
-/* What wasm2c's C goes by. */
-#define WABT_BIG_ENDIAN 0
-#define WASM_RT_MEMCHECK_SIGNAL_HANDLER 0
-#define WASM_RT_USE_STACK_DEPTH_COUNT 0
-#ifndef NDEBUG
-#define NDEBUG
-#endif
-
-/* The parts of the runtime stand below, under names of their own, so that another module's runtime may be linked beside them. */
-#define wasm_rt_trap vcube_rt_trap
-#define wasm_rt_register_func_type vcube_rt_register_func_type
-#define wasm_rt_allocate_memory vcube_rt_allocate_memory
-#define wasm_rt_free_memory vcube_rt_free_memory
-
-/* How much of its stack the module takes: a load has a table there. If it took more, it would leave its memory (VCUBE_PORTABLE_TRAP). */
+/* A load has a table on the module's stack. */
 #define MODULE_STACK 4624
+#define HAS_CONSTANTS 1
 
-/* Where the module's constants begin: at the end of the stack that it was linked with. */
-#define CONSTANTS_AT 65536
-
-#define MOST_STATIONS ((size_t)VCUBE_PORTABLE_STATIONS)
 #define MOST_RESULTS ((size_t)VCUBE_PORTABLE_RESULTS)
 #define TABLE_ROOM VCUBE_TABLE_LENGTH(MOST_STATIONS)
 #define REPORT_ROOM VCUBE_REPORT_LENGTH(MOST_STATIONS)
@@ -91,7 +44,6 @@
 /* What the buffers of any one call take: those of a mending, two saved plants, figures, or the reading of an input. */
 #define GREATER(a, b) ((a) > (b) ? (a) : (b))
 #define CALL_ROOM GREATER(GREATER(TABLE_ROOM + REPORT_ROOM, SAVED_ROOM + SAVED_ROOM), GREATER(RESULTS_ROOM, LEAST_INPUT_ROOM))
-#define MEMORY_SIZE ((MODULE_STACK + NUMBERS_ROOM + CALL_ROOM + 7) / 8 * 8)
 
 /* How many entries of a run are handed over at a time: those that there is room for beside the table, 6 bytes each. */
 #define ENTRIES_AT_ONCE ((CALL_ROOM - TABLE_ROOM) / 6)
@@ -100,235 +52,15 @@
  * 2 bytes, is read from 4 bytes at least, or 3 at the end of an input. */
 #define INPUT_AT_ONCE ((CALL_ROOM - VCUBE_WORDS_LENGTH) / 3 * 2)
 
-/* The module's memory: its stack, which goes down to 0, and behind it the buffers of a call. Its constants do not stand here but among those of
- * the program, and are read there. */
-static VCUBE_PORTABLE_LOCAL uint8_t memory[MEMORY_SIZE];
+#include "vcube_portable_module.h"
+#include "vcube_portable_board.h"
 
-/* By memcpy, of what is filled already. */
-static void fill(uint8_t *bytes, uint8_t value, size_t length)
-{
-    size_t done = 1;
+/* Numbers, low byte first. */
 
-    if (length == 0)
-        return;
-    bytes[0] = value;
-    for (; done < length - done; done += done)
-        memcpy(bytes + done, bytes, done);
-    memcpy(bytes + done, bytes, length - done);
-}
-
-/* The two parts may overlap: a piece is read whole before it is written, and the pieces go from the end that is not overwritten. */
-static void move(uint8_t *to, const uint8_t *from, size_t length)
-{
-    uint8_t piece[32];
-    size_t done = 0;
-
-    while (done < length) {
-        size_t part = length - done < sizeof piece ? length - done : sizeof piece;
-        size_t at = to <= from ? done : length - done - part;
-        memcpy(piece, from + at, part);
-        memcpy(to + at, piece, part);
-        done += part;
-    }
-}
-
-/* A number from the module's bytes, or to them. */
-static inline void copy_number(void *to, const void *from, size_t width)
-{
-#if IS_LOW_BYTE_FIRST
-    memcpy(to, from, width);
-#else
-    const union {
-        uint16_t number;
-        uint8_t bytes[2];
-    } one = {1};
-
-    for (size_t k = 0; k < width; k++)
-        ((uint8_t *)to)[one.bytes[0] == 1 ? k : width - 1 - k] = ((const uint8_t *)from)[k];
-#endif
-}
-
-/* What the module takes of wasm2c's runtime. */
-
-#include "wasm-rt.h"
-
-void vcube_rt_trap(wasm_rt_trap_t why)
-{
-    (void)why;
-    VCUBE_PORTABLE_TRAP
-}
-
-/* For calls of functions by their number; the module has none. */
-uint32_t vcube_rt_register_func_type(uint32_t parameters, uint32_t results, ...)
-{
-    (void)parameters;
-    (void)results;
-    return 0;
-}
-
-/* The memory stands above, and what reaches it does not go by this. */
-void vcube_rt_allocate_memory(wasm_rt_memory_t *made, uint32_t pages, uint32_t most_pages)
-{
-    made->data = memory;
-    made->size = (uint32_t)sizeof memory;
-    made->pages = pages;
-    made->max_pages = most_pages;
-}
-
-void vcube_rt_free_memory(wasm_rt_memory_t *made)
-{
-    (void)made;
-}
-
-/* How the module reaches its memory, in place of wasm2c's own macros and functions of these names, to which make gives other names: its
- * addresses go up to 2^32, and are cut as a size_t is; what is outside the memory is not touched. */
-
-static inline uint8_t *to_write(size_t at, size_t length)
-{
-    if (UNLIKELY(length > sizeof memory || at > sizeof memory - length))
-        vcube_rt_trap(WASM_RT_TRAP_OOB);
-    return memory + at;
-}
-
-static const uint8_t *among_constants(size_t at, size_t length);
-
-static inline const uint8_t *to_read(size_t at, size_t length)
-{
-    if (UNLIKELY(length > sizeof memory || at > sizeof memory - length))
-        return among_constants(at, length);
-    return memory + at;
-}
-
-#define DEFINE_LOAD(name, stored, read, given)                                   \
-    static inline given name(wasm_rt_memory_t *unused, u64 at)                   \
-    {                                                                            \
-        stored number;                                                           \
-        (void)unused;                                                            \
-        copy_number(&number, to_read((size_t)at, sizeof number), sizeof number); \
-        return (given)(read)number;                                              \
-    }
-#define DEFINE_STORE(name, stored, taken)                                         \
-    static inline void name(wasm_rt_memory_t *unused, u64 at, taken value)        \
-    {                                                                             \
-        const stored number = (stored)value;                                      \
-        (void)unused;                                                             \
-        copy_number(to_write((size_t)at, sizeof number), &number, sizeof number); \
-    }
-#define memory_fill(unused, at, value, length) fill(to_write(at, length), (uint8_t)(value), length)
-#define memory_copy(unused, as_well, to, from, length) move(to_write(to, length), to_read(from, length), length)
-/* The constants are all the data that there are: else this does not compile. */
-#define LOAD_DATA(unused, at, bytes, length) (void)sizeof(char[(at) == CONSTANTS_AT ? 1 : -1])
-
-#if defined(__GNUC__)
-#pragma GCC diagnostic push
-#pragma GCC diagnostic ignored "-Wpedantic"
-#pragma GCC diagnostic ignored "-Wunused-function"
-#pragma GCC diagnostic ignored "-Wunused-parameter"
-#pragma GCC diagnostic ignored "-Wunused-variable"
-#pragma GCC diagnostic ignored "-Wunused-but-set-variable"
-#pragma GCC diagnostic ignored "-Wunused-label"
-#pragma GCC diagnostic ignored "-Wunused-value"
-#pragma GCC diagnostic ignored "-Wsign-compare"
-#pragma GCC diagnostic ignored "-Wconversion"
-#pragma GCC diagnostic ignored "-Wsign-conversion"
-#endif
-#include "vcube_module.c"
-#if defined(__GNUC__)
-#pragma GCC diagnostic pop
-#endif
-
-static const uint8_t *among_constants(size_t at, size_t length)
-{
-    at -= CONSTANTS_AT;
-    if (length > sizeof vcube_constants || at > sizeof vcube_constants - length)
-        vcube_rt_trap(WASM_RT_TRAP_OOB);
-    return vcube_constants + at;
-}
-
-static VCUBE_PORTABLE_LOCAL Z_vcube_module_instance_t module;
-static VCUBE_PORTABLE_LOCAL int is_begun;
-
-/* Where the next buffer of a call goes. */
-static VCUBE_PORTABLE_LOCAL uint32_t next;
-
-/* The memory, byte for byte. A pointer to no byte may be NULL. */
-
-static void put_bytes(uint32_t at, const void *from, size_t length)
-{
-    if (length > 0)
-        memcpy(memory + at, from, length);
-}
-
-static void get_bytes(uint32_t at, void *to, size_t length)
-{
-    if (length > 0)
-        memcpy(to, memory + at, length);
-}
-
-/* Numbers stand in the module with the low byte first. */
 static void put_number(uint32_t at, uint64_t number, uint32_t width)
 {
     for (uint32_t k = 0; k < width; k++)
         memory[at + k] = (uint8_t)(number >> (8 * k));
-}
-
-static uint64_t get_number(uint32_t at, uint32_t width)
-{
-    uint64_t number = 0;
-
-    for (uint32_t k = 0; k < width; k++)
-        number |= (uint64_t)memory[at + k] << (8 * k);
-    return number;
-}
-
-static uint32_t get_u32(uint32_t at)
-{
-    return (uint32_t)get_number(at, 4);
-}
-
-static size_t get_size(uint32_t at)
-{
-    return (size_t)get_number(at, 8);
-}
-
-/* A call: its buffers, one behind the other. */
-
-/* The module was linked with more of a stack than it takes. Of that it gets the lowest part, and the buffers stand behind. */
-static void begin_call(void)
-{
-    if (!is_begun) {
-        Z_vcube_module_instantiate(&module);
-        if (module.w2c_g0 != CONSTANTS_AT)
-            vcube_rt_trap(WASM_RT_TRAP_EXHAUSTION);
-        module.w2c_g0 = MODULE_STACK;
-        is_begun = 1;
-    }
-    next = MODULE_STACK;
-}
-
-#define CALL(function, ...) (uint8_t)Z_vcube_moduleZ_##function(&module, __VA_ARGS__)
-
-/* Room for a buffer of this length, which the call fills. */
-static uint32_t room(size_t length)
-{
-    uint32_t at = next;
-
-    next += ((uint32_t)length + 7) / 8 * 8;
-    return at;
-}
-
-/* Room for a number that the call gives. */
-static uint32_t room_for_number(void)
-{
-    return room(8);
-}
-
-static uint32_t bytes_in(const void *from, size_t length)
-{
-    uint32_t at = room(length);
-
-    put_bytes(at, from, length);
-    return at;
 }
 
 static uint32_t number_in(uint64_t number, uint32_t width)
@@ -339,23 +71,13 @@ static uint32_t number_in(uint64_t number, uint32_t width)
     return at;
 }
 
-/* A buffer longer than the longest that is taken is handed over as one byte longer than that, and so refused by its length. */
-static size_t cut(size_t length, size_t longest)
+static uint32_t get_u32(uint32_t at)
 {
-    return length > longest ? longest + 1 : length;
-}
+    uint32_t number;
 
-/* A size that there is no room for is handed over as 0, and so refused as a size. */
-static size_t size_in(size_t n)
-{
-    return n > MOST_STATIONS ? 0 : n;
+    copy_number(&number, memory + at, sizeof number);
+    return number;
 }
-
-/* What is handed over: where it stands, and its length. */
-struct lent {
-    uint32_t at;
-    size_t length;
-};
 
 /* Begins a call on a table. */
 static struct lent begin_with_table(const uint8_t *table, size_t table_length)
@@ -366,14 +88,6 @@ static struct lent begin_with_table(const uint8_t *table, size_t table_length)
     lent.length = cut(table_length, TABLE_ROOM);
     lent.at = bytes_in(table, lent.length);
     return lent;
-}
-
-/* Ends a call that leaves something in what was handed over; a refused one does not. */
-static uint8_t give_back(uint8_t number, struct lent lent, uint8_t *to)
-{
-    if (number == VCUBE_ACCEPTED)
-        get_bytes(lent.at, to, lent.length);
-    return number;
 }
 
 uint32_t vcube_version(void)
@@ -759,22 +473,22 @@ static uint32_t totals_in(const struct vcube_totals *totals)
 
 static void get_totals(uint32_t at, struct vcube_totals *totals)
 {
-    totals->count = get_number(at, 8);
-    totals->sum = get_number(at + 8, 8);
-    totals->squares = get_number(at + 16, 8);
-    totals->least = get_number(at + 24, 8);
-    totals->greatest = get_number(at + 32, 8);
+    totals->count = get_u64(at);
+    totals->sum = get_u64(at + 8);
+    totals->squares = get_u64(at + 16);
+    totals->least = get_u64(at + 24);
+    totals->greatest = get_u64(at + 32);
 }
 
 static void get_figures(uint32_t at, struct vcube_figures *figures)
 {
-    figures->count = get_number(at, 8);
-    figures->least = get_number(at + 8, 8);
-    figures->greatest = get_number(at + 16, 8);
-    figures->mean.upper = get_number(at + 24, 8);
-    figures->mean.lower = get_number(at + 32, 8);
-    figures->variance.upper = get_number(at + 40, 8);
-    figures->variance.lower = get_number(at + 48, 8);
+    figures->count = get_u64(at);
+    figures->least = get_u64(at + 8);
+    figures->greatest = get_u64(at + 16);
+    figures->mean.upper = get_u64(at + 24);
+    figures->mean.lower = get_u64(at + 32);
+    figures->variance.upper = get_u64(at + 40);
+    figures->variance.lower = get_u64(at + 48);
 }
 
 uint8_t vcube_figures_of_list(const uint16_t *results, size_t length, struct vcube_figures *figures)
@@ -943,111 +657,4 @@ uint8_t vcube_read_input(const uint8_t *input, size_t input_length, uint8_t *sch
     fill(words, 0, words_length);
     memcpy(words, one_too_many, sizeof one_too_many);
     return VCUBE_ACCEPTED;
-}
-
-/* A board's own half. */
-
-/* Begins a call on a board's line. */
-static struct lent begin_with_line(const uint8_t *line, size_t line_length)
-{
-    struct lent lent;
-
-    begin_call();
-    lent.length = cut(line_length, VCUBE_LINE_LENGTH(MOST_STATIONS));
-    lent.at = bytes_in(line, lent.length);
-    return lent;
-}
-
-/* A packed row behind it: room for it, and the bytes of one. */
-
-static struct lent room_for_packed(size_t packed_length)
-{
-    struct lent lent;
-
-    lent.length = cut(packed_length, VCUBE_PACKED_LENGTH(MOST_STATIONS));
-    lent.at = room(lent.length);
-    return lent;
-}
-
-static struct lent packed_in(const uint8_t *packed, size_t packed_length)
-{
-    const struct lent lent = room_for_packed(packed_length);
-
-    put_bytes(lent.at, packed, lent.length);
-    return lent;
-}
-
-uint8_t vcube_board_fresh(size_t wiring, size_t n, size_t board, uint8_t *line, size_t line_length)
-{
-    const struct lent lent = begin_with_line(line, line_length);
-
-    return give_back(CALL(vcube_board_fresh, wiring, size_in(n), board, lent.at, lent.length), lent, line);
-}
-
-uint8_t vcube_board_next(size_t wiring, size_t n, size_t board, const uint8_t *line, size_t line_length, size_t *tested)
-{
-    const struct lent lent = begin_with_line(line, line_length);
-    const uint32_t tested_at = room_for_number();
-    uint8_t number;
-
-    number = CALL(vcube_board_next, wiring, size_in(n), board, lent.at, lent.length, tested_at);
-    *tested = get_size(tested_at);
-    return number;
-}
-
-uint8_t vcube_board_row(size_t wiring, size_t n, size_t board, const uint8_t *line, size_t line_length, uint8_t *packed,
-                        size_t packed_length)
-{
-    const struct lent lent = begin_with_line(line, line_length), to_fill = room_for_packed(packed_length);
-    uint8_t number;
-
-    number = CALL(vcube_board_row, wiring, size_in(n), board, lent.at, lent.length, to_fill.at, to_fill.length);
-    return give_back(number, to_fill, packed);
-}
-
-uint8_t vcube_board_replied(size_t wiring, size_t n, size_t board, uint8_t *line, size_t line_length, const uint8_t *packed,
-                            size_t packed_length, size_t *outcome)
-{
-    const struct lent lent = begin_with_line(line, line_length), reply = packed_in(packed, packed_length);
-    const uint32_t outcome_at = room_for_number();
-    uint8_t number;
-
-    number = CALL(vcube_board_replied, wiring, size_in(n), board, lent.at, lent.length, reply.at, reply.length, outcome_at);
-    *outcome = get_size(outcome_at);
-    return give_back(number, lent, line);
-}
-
-uint8_t vcube_board_not_replied(size_t wiring, size_t n, size_t board, uint8_t *line, size_t line_length, size_t *outcome)
-{
-    const struct lent lent = begin_with_line(line, line_length);
-    const uint32_t outcome_at = room_for_number();
-    uint8_t number;
-
-    number = CALL(vcube_board_not_replied, wiring, size_in(n), board, lent.at, lent.length, outcome_at);
-    *outcome = get_size(outcome_at);
-    return give_back(number, lent, line);
-}
-
-uint8_t vcube_board_told(size_t wiring, size_t n, size_t board, uint8_t *line, size_t line_length, size_t by)
-{
-    const struct lent lent = begin_with_line(line, line_length);
-
-    return give_back(CALL(vcube_board_told, wiring, size_in(n), board, lent.at, lent.length, by), lent, line);
-}
-
-uint8_t vcube_board_exchanged(size_t wiring, size_t n, size_t board, uint8_t *line, size_t line_length, size_t from, const uint8_t *packed,
-                              size_t packed_length)
-{
-    const struct lent lent = begin_with_line(line, line_length), sent = packed_in(packed, packed_length);
-    uint8_t number;
-
-    number = CALL(vcube_board_exchanged, wiring, size_in(n), board, lent.at, lent.length, from, sent.at, sent.length);
-    return give_back(number, lent, line);
-}
-
-uint8_t vcube_board_round_closed(size_t wiring, size_t n, size_t board, uint8_t *line, size_t line_length)
-{
-    const struct lent lent = begin_with_line(line, line_length);
-
-    return give_back(CALL(vcube_board_round_closed, wiring, size_in(n), board, lent.at, lent.length), lent, line);
 }

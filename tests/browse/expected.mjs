@@ -128,16 +128,47 @@ function told(saved) {
     };
 }
 
+/// A row as it goes over the cable: board k has bit k % 8 of byte k / 8, bit 0 the lowest.
+function packed(row) {
+    const bytes = Array.from({ length: Math.floor((row.length + 7) / 8) }, () => 0);
+    row.forEach((byte, board) => (bytes[Math.floor(board / 8)] += byte * 2 ** (board % 8)));
+    return bytes.map((byte) => byte.toString(16).padStart(2, '0')).join(' ');
+}
+
+/// The messages of an entry: from whom, to whom, what, and of a row whom it suspects and its bytes. A row is that of the plant saved before the
+/// entry; where there is none, it is left out.
+function sent([board, tested, outcome], closes, saved) {
+    const ends = [board, tested];
+    const back = [tested, board];
+    const with_row = ([from, to], what) => {
+        if (!saved) return [from, to, what];
+        const row = [...line_of(saved, Number(from)).subarray(HEAD)];
+        const others = row.flatMap((byte, other) => (byte === 1 ? [other] : []));
+        return [from, to, what, others.length === 0 ? 'nobody' : others.join(', '), packed(row)];
+    };
+    const by_outcome = {
+        0: [],
+        1: [[...ends, 'test'], with_row(back, 'reply'), with_row(ends, 'exchange')],
+        2: [[...ends, 'test'], with_row(back, 'reply')],
+        3: [[...ends, 'test']],
+        4: [],
+        5: [[...ends, 'test'], with_row(back, 'reply'), [...ends, 'told']],
+    };
+    return [...by_outcome[outcome], ...(closes ? [['all', 'round closed']] : [])];
+}
+
 /// What the page must say at each moment of a list of entries: after none, after one, ..
 export function moments(simulator, n, entries, is_ring) {
     const all = simulator.run(input_of(n, entries), is_ring);
+    let before;
     return Array.from({ length: entries.length + 1 }, (_, k) => {
         const input = input_of(n, entries.slice(0, k));
         const { rounds, tests } = simulator.run(input, is_ring);
-        const moment = { rounds: String(rounds), tests: String(tests), at: `${k} of ${entries.length}`, entry: '', arrows: [] };
+        const moment = { rounds: String(rounds), tests: String(tests), at: `${k} of ${entries.length}`, entry: '', arrows: [], messages: [] };
         if (k > 0) {
             const [board, tested, outcome] = all.lines[k - 1].split(' ');
             moment.entry = tested === '-' ? `Board ${board}: ${OUTCOMES[outcome]}.` : `Board ${board} tests ${tested}: ${OUTCOMES[outcome]}.`;
+            moment.messages = sent(all.lines[k - 1].split(' '), rounds > before.rounds, before.saved);
             if (entries[k - 1].startsWith('L')) moment.entry += ' (A turn, reply late.)';
             if (tested !== '-') {
                 const [name, is_back, is_both] = ARROWS[outcome];
@@ -145,8 +176,9 @@ export function moments(simulator, n, entries, is_ring) {
                 moment.arrows = [[name, ...(is_back ? ends.reverse() : ends), is_both]];
             }
         }
+        const saved = is_ring ? undefined : simulator.saved(input);
+        before = { rounds, saved };
         if (is_ring) return moment;
-        const saved = simulator.saved(input);
         return { ...moment, ...told(saved), granted: granted(saved, last_of(entries.slice(0, k))) };
     });
 }

@@ -46,6 +46,17 @@ const reader = `
             return [path.getAttribute('class').slice(6), nearest(ends[0], ends[1]), nearest(ends[4], ends[5]), heads[1]];
         });
     };
+    // from whom, to whom, what, and of a row whom it suspects and its bytes; what is none of these stays a text
+    window.messages = () => {
+        const texts = [...document.querySelectorAll('#messages li')].filter((item) => item.checkVisibility()).map((item) => item.textContent);
+        if (texts.length > 0 === document.getElementById('no-messages').checkVisibility()) texts.push('messages, and that there are none');
+        const board = '([0-9]+)(?: [(].*?[)])?';
+        const form = new RegExp('^' + board + ' to ' + board + ': ([a-z]+)(?:, suspects (.*) [(]bytes? ([0-9a-f ]+)[)])?$');
+        return texts.map((text) => {
+            if (text === 'To all: round closed') return ['all', 'round closed'];
+            return form.exec(text)?.slice(1).filter((part) => part !== undefined) ?? text;
+        });
+    };
     window.until = async (is_so) => {
         for (let k = 0; k < 2000 && !is_so(); k++) await new Promise((resolve) => setTimeout(resolve, 5));
     };
@@ -74,7 +85,7 @@ const reader = `
         const marks = (row) => [...row.querySelectorAll('td')].map((cell) => cell.textContent || ' ').join('');
         return {
             rounds: at('rounds').replace(/,/g, ''), tests: at('tests').replace(/,/g, ''), at: at('moment-text'),
-            entry: at('entry'), lamp: at('lamp'), granted: at('granted'), arrows: arrows(),
+            entry: at('entry'), lamp: at('lamp'), granted: at('granted'), arrows: arrows(), messages: messages(),
             boards: [...document.querySelectorAll('#boards tbody tr')].map((row) => ({
                 status: text(row.querySelector('.status span:last-child')),
                 ...Object.fromEntries(['told', 'ago', 'made', 'suspects'].map((name) => [name, cell(row, name)])),
@@ -110,10 +121,11 @@ function compare(found, expected, what) {
     const { entry, ...told } = rest;
     const { entry: _, ...wanted } = expected;
     if (wanted.boards === undefined) {
-        same({ rounds: told.rounds, tests: told.tests, at: told.at, arrows: told.arrows }, wanted, what);
+        const of_rows = told.messages.map((message) => message.slice(0, 3));
+        same({ rounds: told.rounds, tests: told.tests, at: told.at, arrows: told.arrows, messages: of_rows }, wanted, what);
         return;
     }
-    for (const key of ['rounds', 'tests', 'at', 'arrows', 'lamp', 'granted', 'boards', 'matrix']) same(told[key], wanted[key], `${what}, ${key}`);
+    for (const key of ['rounds', 'tests', 'at', 'arrows', 'messages', 'lamp', 'granted', 'boards', 'matrix']) same(told[key], wanted[key], `${what}, ${key}`);
     same(signs, wanted.boards.map(({ status }, board) => `Board ${board}, ${status}`), `${what}, the circle`);
 }
 
@@ -177,6 +189,17 @@ async function slots(browser) {
         `[...document.querySelectorAll('#boards .above')].map((cell) => [cell.closest('tr').dataset.board, cell.textContent])`,
     );
     same(red, [['5', '7, above']], 'tests above the slot');
+}
+
+/// Rows on the cable with names, and on the ring, of which the simulator saves no plant: 0 finds 1 dead, and then exchanges with 2.
+async function sends(browser) {
+    await open(browser, link(4, ['C 1', 'T 0', 'T 0'], 3, 'ring', '&name2=the%20long%20(press)'));
+    const rows = [['0', '2', 'test'], ['2', '0', 'reply', 'nobody', '00'], ['0', '2', 'exchange', '1', '02']];
+    same((await browser.value('said()')).messages, rows, 'messages on the ring');
+    const text = await browser.value(`document.querySelector('#messages li').textContent`);
+    same(text, '0 to 2 (the long (press)): test', 'a message with a name');
+    same((await browser.value(`press('back')`)).messages, [['0', '1', 'test']], 'messages without a reply');
+    same((await browser.value(`press('first')`)).messages, [], 'messages before the first entry');
 }
 
 /// The bound on rounds and turns: on the cube by the simulator; on the ring half of the boards, in each a turn for each board and for each live one.
@@ -480,7 +503,7 @@ async function files(browser) {
     same(Buffer.from(await kept(browser)).toString(), input.toString(), 'the input, saved');
     await open(browser, link(2, [], 0));
     same(await drop(browser, saved), '', 'a dropped saved plant');
-    const opened = { ...expected, at: '0 of 0', entry: 'The saved plant as it was opened.', granted: granted(saved, undefined) };
+    const opened = { ...expected, at: '0 of 0', entry: 'The saved plant as it was opened.', messages: [], granted: granted(saved, undefined) };
     compare(await browser.value('said()'), opened, 'a dropped saved plant');
     // names from a file, beside what is shown
     same(await drop(browser, readFileSync(`${samples}/eight-boards-names.txt`)), '', 'dropped names');
@@ -783,8 +806,9 @@ async function finds(browser) {
     const [before, before_compared] = [wrong.length, compared];
     compare(found, { ...right, matrix: ['●●', '  '] }, 'altered');
     compare(found, { ...right, entry: 'Board 1' }, 'altered');
+    compare(found, { ...right, messages: [['0', '1', 'test'], ['1', '0', 'reply', 'nobody', '01'], right.messages[2]] }, 'altered');
     compare(found, { ...right, boards: [{ ...right.boards[0], made: '9' }, right.boards[1]] }, 'altered');
-    const is_found = wrong.length === before + 3;
+    const is_found = wrong.length === before + 4;
     [wrong.length, compared] = [before, before_compared];
     check(is_found, 'an altered expectation is not found');
     await browser.value(`console.error('seen') ?? true`);
@@ -817,7 +841,7 @@ try {
     await play(browser, 4, sample('four-boards.txt').slice(1), 'ring');
     await play(browser, 11, simulator.entries(11, 100, 3, true), 'ring');
     await play_by_buttons(browser, 8, sample('eight-boards-4-out.txt').slice(1));
-    const of_plants = [slots, bounds, drives, is_put_aside, plays, opens, links, prints, refusals, names_as_they_are, files];
+    const of_plants = [slots, sends, bounds, drives, is_put_aside, plays, opens, links, prints, refusals, names_as_they_are, files];
     const tests = [...of_plants, by_keys, by_tabs, is_usable, is_accessible, times];
     for (const test of tests) await test(browser);
     if (option === '--pictures' && name === 'Chromium') await take_pictures(browser);

@@ -3,6 +3,8 @@
  *
  * Usage: replay FILE [MOST_STATIONS MOST_RESULTS]
  *
+ * Compiled with ONLY_BOARD it makes a board's calls alone, and passes over the others.
+ *
  * FILE may be -, which is standard input. A call with a number that this processor's size_t cannot hold is left out. With MOST_STATIONS and
  * MOST_RESULTS the library behind the header was built for so many only: calls on more are left out.
  *
@@ -395,7 +397,11 @@ static size_t items(size_t k)
 #define FIGURES(k) (struct vcube_figures *)(void *)argument_at(k, 't')->lent
 
 /* Each call, by the header's own types. */
+#ifdef ONLY_BOARD
+#define CALLS(MAKE) CALLS_OF_BOARD(MAKE)
+#else
 #define CALLS(MAKE) \
+    CALLS_OF_BOARD(MAKE) \
     MAKE(fresh_table, N(0), N(1), B(2)) \
     MAKE(group_list, N(0), N(1), N(2), B(3)) \
     MAKE(assignment, N(0), CONST_B(1), N(2), B(3), S(4)) \
@@ -420,7 +426,9 @@ static size_t items(size_t k)
     MAKE(refusal_words, N(0), B(1)) \
     MAKE(status_words, N(0), B(1)) \
     MAKE(outcome_words, N(0), B(1)) \
-    MAKE(read_input, CONST_B(0), B(1), B(2), S(3), S(4), S(5)) \
+    MAKE(read_input, CONST_B(0), B(1), B(2), S(3), S(4), S(5))
+#endif
+#define CALLS_OF_BOARD(MAKE) \
     MAKE(board_fresh, N(0), N(1), N(2), B(3)) \
     MAKE(board_next, N(0), N(1), N(2), CONST_B(3), S(4)) \
     MAKE(board_row, N(0), N(1), N(2), CONST_B(3), B(4)) \
@@ -446,6 +454,16 @@ static uint8_t make(void)
             return functions[k].make();
     unreadable("an unknown function");
     return 0;
+}
+
+/* Whether the call is none of those that are made here. */
+static int is_passed_over(void)
+{
+#ifdef ONLY_BOARD
+    return strncmp(call.function, "vcube_board_", 12) != 0;
+#else
+    return 0;
+#endif
 }
 
 /* Lends what stands before the call. A list of length 0 is now and then handed over as NULL, which the header allows. */
@@ -537,7 +555,7 @@ static int replay(void)
 
 int main(int count, char **words)
 {
-    unsigned long made = 0, wrong = 0;
+    unsigned long made = 0, wrong = 0, passed_over = 0;
 
     if (count != 2 && count != 4)
         unreadable("usage: replay FILE [MOST_STATIONS MOST_RESULTS]");
@@ -550,11 +568,14 @@ int main(int count, char **words)
     }
     prepare();
     while (wrong < MOST_WRONG && read_call()) {
-        if (is_left_out())
+        if (is_passed_over())
+            passed_over++;
+        if (is_passed_over() || is_left_out())
             continue;
         made++;
         wrong += !replay();
     }
+    calls -= passed_over;
     printf("replay: %lu calls made, %lu wrong, %lu left out\n", made, wrong, calls - made);
     /* A build for all stations and results whose size_t holds all numbers has to make every call. */
     return wrong > 0 || made == 0 || (calls > made && wrong == 0 && count != 4 && sizeof(size_t) == 8);

@@ -38,7 +38,7 @@ use Rattle.table.proofs.LineLaws.{row_of-length, row_of-at, with_row-length, wit
 use Rattle.board.proofs.NextLaws.{next-low, next-station, next_after-between}
 use Rattle.board.proofs.PackedLaws.{any-bytes}
 use Rattle.board.specs.Keeps.{CallsKeepTheRules, FreshLineIsOne}
-use Rattle.board.specs.Calls.{line_rules, place_check, line_check, live_check, turn_check, replied_check, sent_check, exchanged_check, fresh_after, row_in}
+use Rattle.board.specs.Calls.{line_rules, place_check, line_check, turn_check, replied_check, sent_check, exchanged_check, row_in}
 
 -- a line that is let through
 pub record Good (w n i : ℕ) (l : List ℕ) : Type 0 where

@@ -2,5 +2,6 @@
 pub mod RowLaws
 pub mod NextLaws
 pub mod PackedLaws
+pub mod JoinLaws
 pub mod CallLaws
 pub mod KeepsLaws

@@ -3,7 +3,7 @@
 use mathlib.Core.Path.{◌≡◌, refl, sym, ap, ◌∙◌}
 use mathlib.Core.Logic.{◌≢◌}
 use mathlib.Core.Bool.{Bool, true, false}
-use mathlib.Core.List.{List, ◌++◌}
+use mathlib.Core.List.{List}
 use Prim.Native.Nat.{ℕ, zero, suc, ◌+◌, ◌*◌, ◌-◌, ◌/◌, ◌%◌, ◌^◌, ◌≤◌, ◌<◌}
 use native.Mathlib.Nat.{pow-succ'}
 use native.Mathlib.Decide.{dec_lt, ℕ_discrete}
@@ -11,15 +11,13 @@ use native.Mathlib.Omega.{arith}
 use borrow.Author.Tests.{eq-eqb, ne_eqb}
 use lib.Dec.{eqb}
 use lib.Pow.{pow_mono}
-use lib.ListN.{length, get_or, take}
-use lib.Seq.{sets, take_at, ext_get_or}
+use lib.ListN.{length, get_or}
+use lib.Seq.{ext_get_or}
 use Rattle.std.specs.Int.{bit_at}
 use Rattle.std.proofs.lemmas.List.{get_or_past}
 use Rattle.std.proofs.lemmas.Nat.Bits.{bit_at_lowest, bit_at-suc, bit_at-lt}
-use Rattle.lists.specs.Search.{list_of}
 use Rattle.lists.specs.Sums.{bit}
-use Rattle.lists.proofs.Writing.{sets-all}
-use Rattle.lists.proofs.SearchLaws.{list_of-length, list_of-at, list_of-append}
+use Rattle.lists.proofs.SearchLaws.{list_of-length, list_of-at}
 use Rattle.board.specs.Packed.{bits, suspicion, packed_length, packed_byte, pack, heard_byte, heard, AnyBytesAreARow}
 
 suspicion-bit : (r : List ℕ) (k : ℕ) → suspicion r k ≤ 1
@@ -57,16 +55,16 @@ pub heard-length : (n from : ℕ) (p : List ℕ) → length (heard n from p) ≡
 unfolding heard
 heard-length n from p = list_of-length (heard_byte from p) n
 
-heard-at : (n from : ℕ) (p : List ℕ) (k : ℕ) → k < n → get_or (heard n from p) k 0 ≡ heard_byte from p k
+pub heard_at : (n from : ℕ) (p : List ℕ) (k : ℕ) → k < n → get_or (heard n from p) k 0 ≡ heard_byte from p k
 unfolding heard
-heard-at n from p k h = list_of-at (heard_byte from p) n k h
+heard_at n from p k h = list_of-at (heard_byte from p) n k h
 
 -- about the sender, and about another
-heard-from : (from : ℕ) (p : List ℕ) → heard_byte from p from ≡ 0
+pub heard-from : (from : ℕ) (p : List ℕ) → heard_byte from p from ≡ 0
 unfolding heard_byte
 heard-from from p = rw (eq-eqb from from refl) refl
 
-heard-other : (from : ℕ) (p : List ℕ) (k : ℕ) → k ≢ from → heard_byte from p k ≡ bit_at (get_or p (k / 8) 0) (k % 8)
+pub heard-other : (from : ℕ) (p : List ℕ) (k : ℕ) → k ≢ from → heard_byte from p k ≡ bit_at (get_or p (k / 8) 0) (k % 8)
 unfolding heard_byte
 heard-other from p k d = rw (ne_eqb k from d) refl
 
@@ -84,31 +82,14 @@ packed-at n r k h =
 pub back : (n from : ℕ) (r : List ℕ) → length r ≡ n → ((k : ℕ) → k < n → get_or r k 0 ≤ 1) → get_or r from 0 ≡ 0 → heard n from (pack n r) ≡ r
 back n from r long low own =
     let e = heard-length n from (pack n r) in
-    ext_get_or 0 (heard n from (pack n r)) r (e ∙ sym long) (λ k h. heard-at n from (pack n r) k (omega arith) ∙ pick k (omega arith) (ℕ_discrete k from))
+    ext_get_or 0 (heard n from (pack n r)) r (e ∙ sym long) (λ k h. heard_at n from (pack n r) k (omega arith) ∙ pick k (omega arith) (ℕ_discrete k from))
   where
     pick : (k : ℕ) → k < n → Dec (k ≡ from) → heard_byte from (pack n r) k ≡ get_or r k 0
     pick k h (yes e) = rw e (heard-from from (pack n r) ∙ sym own)
     pick k h (no d) = heard-other from (pack n r) k d ∙ (packed-at n r k h ∙ suspicion-is r k (low k h))
 
--- the row of a smaller plant is the front of one of 64
-pub take_heard : (n from : ℕ) (p : List ℕ) → n ≤ 64 → take n (heard 64 from p) ≡ heard n from p
-unfolding heard
-take_heard n from p h =
-    let e : n + (64 - n) ≡ 64 = omega arith in
-    let split : heard 64 from p ≡ list_of (heard_byte from p) n ++ list_of (λ k. heard_byte from p (n + k)) (64 - n) =
-    sym (ap (list_of (heard_byte from p)) e) ∙ list_of-append (heard_byte from p) n (64 - n) in
-    ap (take n) split ∙ take_at (list_of (heard_byte from p) n) (list_of (λ k. heard_byte from p (n + k)) (64 - n)) n (heard-length n from p)
-
-pub front-length : (n from : ℕ) (p r : List ℕ) → n ≤ 64 → r ≡ heard 64 from p → length (take n r) ≡ n
-front-length n from p r h e = rw (e, take_heard n from p h) (heard-length n from p)
-
--- the loop that fills a row with what is heard has filled it
-pub heard-filled : (from k : ℕ) (p l t : List ℕ) → t ≡ sets l 0 (list_of (heard_byte from p) k) → length l ≡ 64 → k ≡ 64 → t ≡ heard 64 from p
-unfolding heard
-heard-filled from k p l t e long h = e ∙ rw h (sets-all l (list_of (heard_byte from p) 64) (long ∙ sym (list_of-length (heard_byte from p) 64)))
-
 -- whatever bytes come are a row
-heard-low : (from : ℕ) (p : List ℕ) (k : ℕ) → heard_byte from p k ≤ 1
+pub heard-low : (from : ℕ) (p : List ℕ) (k : ℕ) → heard_byte from p k ≤ 1
 heard-low from p k = pick (ℕ_discrete k from)
   where
     pick : Dec (k ≡ from) → heard_byte from p k ≤ 1
@@ -116,12 +97,12 @@ heard-low from p k = pick (ℕ_discrete k from)
     pick (no d) = omega (arith, heard-other from p k d, bit_at-lt (get_or p (k / 8) 0) (k % 8))
 
 heard-own : (n from : ℕ) (p : List ℕ) → Dec (from < n) → get_or (heard n from p) from 0 ≡ 0
-heard-own n from p (yes h) = heard-at n from p from h ∙ heard-from from p
+heard-own n from p (yes h) = heard_at n from p from h ∙ heard-from from p
 heard-own n from p (no d) = get_or_past _ from 0 (omega (arith, heard-length n from p))
 
 pub any-bytes : AnyBytesAreARow
 any-bytes n from p =
-    (heard-length n from p, heard-own n from p (dec_lt from n), λ k h. omega (arith, heard-at n from p k h, heard-low from p k))
+    (heard-length n from p, heard-own n from p (dec_lt from n), λ k h. omega (arith, heard_at n from p k h, heard-low from p k))
 
 -- the loop that packs a byte, from the highest bit down: there is room for one more bit, and it is added
 module _ (r : List ℕ) (s k byte : ℕ) (done : byte ≡ bits (suspicion r) (s + k) (8 - k)) (more : 0 < k) where

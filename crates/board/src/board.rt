@@ -1,5 +1,5 @@
 // A board and its own line: n + 6 bytes, lent to each call.
-ghost use Rattle.std.specs.Prelude.{◌≡◌, ◌<◌, length, None, option_map, slice_index};
+ghost use Rattle.std.specs.Prelude.{◌≡◌, ◌<◌, length, None, Some, option_map, slice_index};
 ghost use Rattle.table.specs.Fresh.{fresh_byte};
 ghost use Rattle.lists.specs.Search.{list_of};
 ghost use Rattle.table.specs.Line.{row_of};
@@ -8,8 +8,9 @@ ghost use Rattle.table.specs.Wiring.{wiring_number};
 ghost use Rattle.station.specs.Outcome.{tested_byte, outcome_byte};
 ghost use Rattle.board.specs.Board.{next_of, next_station, tested, pass_finished, counted, left_told, joined, suspecting, alone, after_alone, outcome_of, after_outcome, tested_at, turn_of, outcome, round_closed};
 ghost use Rattle.board.specs.Calls.{row_in};
+ghost use Rattle.board.specs.Packed.{heard};
 
-use crate::packed;
+use crate::packed::Heard;
 use station::outcome::Outcome;
 use station::rows;
 use station::wired::Wired;
@@ -95,7 +96,7 @@ impl Board {
     }
 
     // The board's turn where the board that it tests replies in time, with its packed row.
-    #[tactic(auto, using(table::proofs::SizeLaws::size_top, table::proofs::WiringLaws::end_top, crate::proofs::PackedLaws::take_heard), unfolding(crate::specs::Board::turn_of, crate::specs::Board::outcome, crate::specs::Board::tested, crate::specs::Board::tests))]
+    #[tactic(auto, using(table::proofs::SizeLaws::size_top, table::proofs::WiringLaws::end_top), unfolding(crate::specs::Board::turn_of, crate::specs::Board::outcome, crate::specs::Board::tested, crate::specs::Board::tests, crate::specs::Board::tested_at))]
     pub(crate) fn replied(self, line: &mut [u8], packed: &[u8]) -> Outcome
         requires fits { length line.old ≡ stride self.wired.n }
         requires tests_fit { slice_index line.old tests_column < 255 }
@@ -111,17 +112,19 @@ impl Board {
             self.finish_pass(line);
             return Outcome::PassFinished;
         }
-        let j = self.wired.station_at(self.own, m);
-        let heard = packed::heard(j, packed);
-        let size = self.wired.n as usize;
-        let row = &heard[..size];
-        let outcome = self.outcome_of(line, row, j);
-        self.close_test(line, row, m, outcome);
+        let reply = Heard {
+            from: self.wired.station_at(self.own, m),
+            packed,
+        };
+        let outcome = self.outcome_of(line, &reply);
+        self.count(line, m, outcome);
+        self.apply_outcome(line, &reply, outcome);
+        self.leave_if_alone(line);
         outcome
     }
 
     // The board's turn where no reply comes in time.
-    #[tactic(auto, using(table::proofs::SizeLaws::size_top, table::proofs::WiringLaws::end_top), unfolding(crate::specs::Board::turn_of, crate::specs::Board::outcome, crate::specs::Board::outcome_of, crate::specs::Board::tests))]
+    #[tactic(auto, using(table::proofs::SizeLaws::size_top, table::proofs::WiringLaws::end_top), unfolding(crate::specs::Board::turn_of, crate::specs::Board::outcome, crate::specs::Board::outcome_of, crate::specs::Board::tests, crate::specs::Board::tested_at, crate::specs::Board::after_outcome))]
     pub(crate) fn not_replied(self, line: &mut [u8]) -> Outcome
         requires fits { length line.old ≡ stride self.wired.n }
         requires tests_fit { slice_index line.old tests_column < 255 }
@@ -135,8 +138,11 @@ impl Board {
             self.finish_pass(line);
             return Outcome::PassFinished;
         }
-        let outcome = Outcome::NoReply(self.wired.station_at(self.own, m));
-        self.close_test(line, &[], m, outcome);
+        let j = self.wired.station_at(self.own, m);
+        let outcome = Outcome::NoReply(j);
+        self.count(line, m, outcome);
+        self.suspect(line, j);
+        self.leave_if_alone(line);
         outcome
     }
 
@@ -151,18 +157,17 @@ impl Board {
         line[FINISHED] = 1;
     }
 
-    // The outcome of the test of j, which replied with its row. That row is asked first: whoever is suspected in it is told.
-    #[tactic(auto, unfolding(crate::specs::Board::outcome_of))]
-    fn outcome_of(self, line: &[u8], row: &[u8], j: Station) -> Outcome
+    // The outcome of the test of a board that replied with its row. That row is asked first: whoever is suspected in it is told.
+    #[tactic(auto, using(crate::proofs::PackedLaws::heard_at), unfolding(crate::specs::Board::outcome_of))]
+    fn outcome_of(self, line: &[u8], reply: &Heard) -> Outcome
         requires fits { length line.now ≡ stride self.wired.n }
-        requires whole { length row.now ≡ self.wired.n }
-        requires other { j.0 < self.wired.n }
-        ensures tested_station { tested_byte result ≡ j.0 }
-        ensures outcome_number { let reply = Some row.now in
-            outcome_byte result ≡ outcome_of self.own.0 j.0 line.now reply }
+        requires other { reply.now.from.0 < self.wired.n }
+        ensures tested_station { tested_byte result ≡ reply.now.from.0 }
+        ensures outcome_number { let row = heard self.wired.n reply.now.from.0 reply.now.packed.now in
+            outcome_byte result ≡ outcome_of self.own.0 reply.now.from.0 line.now (Some row) }
     {
-        let own = self.own.0 as usize;
-        if row[own] == 1 {
+        let j = reply.from;
+        if reply.suspects(self.own) {
             return Outcome::Told(j);
         }
         let at = HEAD + j.0 as usize;
@@ -170,23 +175,6 @@ impl Board {
             return Outcome::TestedTold(j);
         }
         Outcome::Exchanged(j)
-    }
-
-    // A test at distance m with its outcome, and the row that was answered: it is counted, takes effect, and the board leaves if it is alone.
-    #[tactic(auto, unfolding(crate::specs::Board::tested_at))]
-    fn close_test(self, line: &mut [u8], row: &[u8], m: Distance, outcome: Outcome)
-        requires fits { length line.old ≡ stride self.wired.n }
-        requires tests_fit { slice_index line.old tests_column < 255 }
-        requires distance_fits { m.0 < 255 }
-        requires other { tested_byte outcome < self.wired.n }
-        ensures { let w = wiring_number self.wired.wiring in
-            let j = tested_byte outcome in
-            let number = outcome_byte outcome in
-            line.new ≡ tested_at w self.wired.n self.own.0 line.old row.now m.0 j number }
-    {
-        self.count(line, m, outcome);
-        self.apply_outcome(line, row, outcome);
-        self.leave_if_alone(line);
     }
 
     // Counts the test by its outcome: next distance and tests made.
@@ -203,18 +191,19 @@ impl Board {
         line[TESTS] = tests + 1;
     }
 
-    // What the outcome of the test of j does to the line; `row` is what j answered.
+    // What the outcome of a test does to the tester's line; `reply` is what came.
     #[tactic(auto, using(table::proofs::SizeLaws::size_top), unfolding(crate::specs::Board::after_outcome))]
-    fn apply_outcome(self, line: &mut [u8], row: &[u8], outcome: Outcome)
+    fn apply_outcome(self, line: &mut [u8], reply: &Heard, outcome: Outcome)
         requires fits { length line.old ≡ stride self.wired.n }
         requires other { tested_byte outcome < self.wired.n }
-        ensures { let j = tested_byte outcome in
-            let number = outcome_byte outcome in
-            line.new ≡ after_outcome self.wired.n self.own.0 j line.old row.now number }
+        ensures { let n = self.wired.n in
+            let row = heard n reply.now.from.0 reply.now.packed.now in
+            let j = tested_byte outcome in
+            line.new ≡ after_outcome n self.own.0 j line.old row (outcome_byte outcome) }
     {
         match outcome {
             Outcome::Told(j) => self.leave_told(line, j),
-            Outcome::Exchanged(_) => self.join(line, row),
+            Outcome::Exchanged(_) => self.join(line, reply),
             Outcome::NoReply(j) => self.suspect(line, j),
             // The tester's line stays; the others are no outcome of a test.
             Outcome::TestedTold(_) | Outcome::PassFinished | Outcome::Crashed => {}
@@ -232,13 +221,14 @@ impl Board {
     }
 
     // Joins the row of another board into its own.
-    #[tactic(auto, unfolding(crate::specs::Board::joined, table::specs::Line::row_of, table::specs::Line::with_row))]
-    pub(crate) fn join(self, line: &mut [u8], row: &[u8])
+    #[tactic(auto, using(table::proofs::SizeLaws::size_top), unfolding(crate::specs::Board::joined, table::specs::Line::row_of, table::specs::Line::with_row))]
+    pub(crate) fn join(self, line: &mut [u8], row: &Heard)
         requires { length line.old ≡ stride self.wired.n }
-        ensures { line.new ≡ joined self.wired.n self.own.0 line.old row.now }
+        ensures { let n = self.wired.n in
+            line.new ≡ joined n self.own.0 line.old (heard n row.now.from.0 row.now.packed.now) }
     {
         let end = self.line_length();
-        rows::join_row(&mut line[HEAD..end], row, self.own);
+        row.join_into(&mut line[HEAD..end], self.own);
     }
 
     // The board suspects j, which did not reply.

@@ -5,7 +5,7 @@ ghost use Rattle.station.specs.Outcome.{outcome_byte};
 ghost use Rattle.board.specs.Calls.{place_check, line_check, row_check, sent_check, exchanged_check, fresh_after, next_answer, row_sent, replied_answer, replied_after, silent_answer, silent_after, told_after, exchanged_after, closed_after};
 
 use crate::board::Board;
-use crate::packed;
+use crate::packed::{self, Heard};
 use lists::refusal::Refusal;
 use station::outcome::Outcome;
 use table::Station;
@@ -105,7 +105,7 @@ pub fn told(
 }
 
 // Board `from`, which tested this one, sends its row, packed.
-#[tactic(auto, using(table::proofs::SizeLaws::size_top, crate::proofs::PackedLaws::take_heard), unfolding(crate::specs::Calls::exchanged_check, crate::specs::Calls::sent_check, crate::specs::Calls::live_check, crate::specs::Calls::line_check))]
+#[tactic(auto, using(table::proofs::SizeLaws::size_top), unfolding(crate::specs::Calls::exchanged_check, crate::specs::Calls::sent_check, crate::specs::Calls::live_check, crate::specs::Calls::line_check))]
 pub fn exchanged(
     wiring: usize,
     n: usize,
@@ -121,9 +121,7 @@ pub fn exchanged(
     let board = Board::checked(wiring, n, own, line.len())?;
     board.check_sent(line, from)?;
     board.check_packed(packed)?;
-    let heard = packed::heard(from, packed);
-    let size = board.wired.n as usize;
-    board.join(line, &heard[..size]);
+    board.join(line, &Heard { from, packed });
     Ok(())
 }
 

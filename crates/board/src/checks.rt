@@ -1,7 +1,7 @@
 // What each call of a board asks of its inputs, in the order of the refusals.
 ghost use Rattle.std.specs.Prelude.{◌≡◌, ◌<◌, length, IfOk, slice_index};
 ghost use Rattle.std.specs.Result.{result_map_both};
-ghost use Rattle.table.specs.Rules.{length_check};
+ghost use Rattle.table.specs.Rules.{row_rule_by, length_check};
 ghost use Rattle.table.specs.Table.{stride, tests_column};
 ghost use Rattle.table.specs.Wiring.{wiring_number};
 ghost use Rattle.board.specs.Packed.{packed_length};
@@ -137,6 +137,16 @@ impl Board {
         if !rules::exit_rule(self.wired.n, self.own, status, by, ago) {
             return false;
         }
-        rules::keeps_row_rule(self.row(line), self.own)
+        self.keeps_row_rule(self.row(line))
+    }
+
+    // Whether the row keeps its rules. By words, which is quicker than table's check by bytes where there are no vectors.
+    #[tactic(auto, unfolding(words::specs::Words::are_bits))]
+    fn keeps_row_rule(self, row: &[u8]) -> bool
+        requires { length row.now ≡ self.wired.n }
+        ensures { result ≡ row_rule_by (length row.now) self.own.0 (slice_index row.now) }
+    {
+        let own = self.own.0 as usize;
+        (row[own] == 0) & words::are_bits(row)
     }
 }

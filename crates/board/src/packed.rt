@@ -37,27 +37,72 @@ fn suspicion(row: &[u8], k: usize) -> u8
     u8::from(row.get(k).copied().unwrap_or(0) == 1)
 }
 
-// The row that a packed one from station `from` stands for, as one of 64 stations: the row of a smaller plant is its front.
-#[tactic(auto, using(lists::proofs::Loops::loops), unfolding(crate::specs::Packed::heard))]
-pub(crate) fn heard(from: Station, packed: &[u8]) -> [u8; 64]
-    ensures { result ≡ heard 64 from.0 packed.now }
-{
-    let mut row = [0u8; 64];
-    for k in 0..64usize {
-        row[k] = heard_byte(from, packed, k);
-    }
-    row
+// The row of station `from`, as it came over the cable.
+#[derive(Clone, Copy)]
+pub(crate) struct Heard<'a> {
+    pub(crate) from: Station,
+    pub(crate) packed: &'a [u8],
 }
 
-// Byte k of it; past the end of the packed row 0.
-#[tactic(auto, using(std::proofs::lemmas::Nat::Bits::shr_and_one), unfolding(crate::specs::Packed::heard_byte))]
-fn heard_byte(from: Station, packed: &[u8], k: usize) -> u8
-    ensures { result ≡ heard_byte from.0 packed.now k }
-{
-    if k == from.0 as usize {
-        return 0;
+impl Heard<'_> {
+    ghost use Rattle.std.specs.Prelude.{◌==◌, set, slice_index};
+    ghost use Rattle.station.specs.Rows.{union_byte, union};
+
+    // Whether it suspects station k. Of the sender itself nobody is told that.
+    #[tactic(auto, using(std::proofs::lemmas::Nat::Bits::shr_and_one), unfolding(crate::specs::Packed::heard_byte))]
+    pub(crate) fn suspects(&self, k: Station) -> bool
+        ensures { result ≡ (heard_byte self.now.from.0 self.now.packed.now k.0 == 1) }
+    {
+        if k == self.from {
+            return false;
+        }
+        let byte = self.byte(k.0 as usize / 8);
+        let digit = k.0 % 8;
+        (byte >> digit) & 1 == 1
     }
-    let byte = packed.get(k / 8).copied().unwrap_or(0);
-    let digit = k % 8;
-    (byte >> digit) & 1
+
+    // Joins it into the row of station own: no row is written out for that, and a byte's bits of 0 that are left over are passed at once.
+    pub(crate) fn join_into(&self, row: &mut [u8], own: Station)
+        requires { length row.old ≤ 64 }
+        ensures { row.new
+            ≡ union row.old (heard (length row.old) self.now.from.0 self.now.packed.now) own.0 }
+    {
+        let mut k: usize = 0;
+        while k < row.len() {
+            let byte = self.byte(k / 8);
+            let digit = k % 8;
+            let bits = byte >> digit;
+            if bits == 0 {
+                k += 8 - digit;
+                continue;
+            }
+            if bits & 1 == 1 {
+                self.join_one(row, own, k);
+            }
+            k += 1;
+        }
+    }
+
+    // Byte b; past the end 0.
+    fn byte(&self, b: usize) -> u8
+        ensures { result ≡ slice_index self.now.packed.now b }
+    {
+        self.packed.get(b).copied().unwrap_or(0)
+    }
+
+    // Joins what it says of station k.
+    fn join_one(&self, row: &mut [u8], own: Station, k: usize)
+        requires inside { k < length row.old }
+        requires size { length row.old ≤ 64 }
+        ensures { let h = heard (length row.old) self.now.from.0 self.now.packed.now in
+            row.new ≡ set row.old k (union_byte row.old h own.0 k) }
+    {
+        if k == own.0 as usize {
+            return;
+        }
+        if !self.suspects(Station(k as u8)) {
+            return;
+        }
+        row[k] = row[k].max(1);
+    }
 }

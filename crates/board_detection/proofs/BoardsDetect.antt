@@ -25,7 +25,8 @@ use Rattle.detection.proofs.Counting.{counts_start}
 use Rattle.detection.proofs.DetectionClaim.{detection-in-square, detection-in-triangle, detection-in-worst-case}
 use Rattle.cable.specs.Boards.{Lines, Hold, after_entries, table_of}
 use Rattle.board_detection.specs.Detect.{BoardsBegin, TurnsInTime, board_tests, counts_by_round, closed_rounds, BoardsKnow, BoardsDetect}
-use Rattle.board_detection.proofs.Rounds.{Beside, Alike, SameRounds, same-rounds, tests-alike, turns-alike}
+use Rattle.board_detection.proofs.Steps.{Beside}
+use Rattle.board_detection.proofs.Rounds.{Alike, SameRounds, same-rounds, tests-alike, turns-alike}
 use Rattle.board_detection.proofs.FirstTable.{hold, live-is, fresh, ok, start, two_live, none, count-is}
 
 -- entries as a schedule
@@ -64,18 +65,16 @@ module _ (w n : ℕ) (b : Lines) (es : List Entry) (begin : BoardsBegin w n b) (
   abbrev taken : List Taken
   taken = taken_from w n s es
 
-  beside : Beside w n s b t []
+  beside : Beside w n s b
   beside = record {
     ok = ok w n b begin;
     hold = hold w n b begin;
     rounds = omega arith;
     tests = omega arith;
-    fresh = fresh w n b begin;
-    counts = counts_start n t;
   }
 
   same : SameRounds w n s b [] es
-  same = same-rounds w n s b t [] es beside turns
+  same = same-rounds w n s b es beside turns t [] (fresh w n b begin) (counts_start n t)
 
   starts : start_refusal w n t (length (bytes_of es)) (length sheet) ≡ 0
   unfolding start_check

@@ -23,7 +23,7 @@ use Rattle.plant.proofs.RoundLaws.{Reset}
 use Rattle.plant.proofs.RulesKept.{unfinished-open}
 use Rattle.detection.specs.Claim.{stands_at, nobody_live_by, group_without_live, pairs_by, pairs_without_live, count_of}
 use Rattle.cable.specs.Boards.{Lines, Hold, table_of}
-use Rattle.cable.proofs.LineFacts.{let-through}
+use Rattle.board.proofs.KeepsLaws.{good}
 use Rattle.cable.proofs.HoldLaws.{live-same, over-same}
 use Rattle.cable.proofs.TableOf.{table-line, boards-make-a-table}
 use Rattle.board_detection.specs.Detect.{live_boards, BoardsBegin, count_of_tests}
@@ -37,7 +37,7 @@ module _ (w n : ℕ) (b : Lines) (begin : BoardsBegin w n b) where
   some = omega (arith, begin.two_live, sum-not (λ i. is_live (b i)) n)
 
   line-is : (k : ℕ) → k < n → line n t k ≡ b k
-  line-is k h = table-line n b k h (let-through w n k (b k) (begin.lines k h)).0.long
+  line-is k h = table-line n b k h (good w n k (b k) (begin.lines k h)).long
 
   byte : (k c : ℕ) → k < n → c < stride n → cell n t k c ≡ get_or (b k) c 0
   byte k c h hc = sym (line_at n t k c hc) ∙ ap (λ (l : List ℕ). get_or l c 0) (line-is k h)

@@ -1,4 +1,3 @@
--- The laws of the crate.
 pub mod Steps
 pub mod Rounds
 pub mod FirstTable

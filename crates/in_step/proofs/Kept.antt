@@ -1,10 +1,10 @@
 -- What holds of everything whatever happens.
 -- Assumes nothing.
 use mathlib.Core.Path.{◌≡◌, refl, sym, ap, subst, ◌∙◌}
-use mathlib.Core.Logic.{◌≢◌, ◌⊎◌, inl, inr, ⊎_elim}
-use mathlib.Core.Bool.{Bool, true, false, cond, ◌&&◌}
+use mathlib.Core.Logic.{inl, inr, ⊎_elim}
+use mathlib.Core.Bool.{true, false, cond, ◌&&◌}
 use mathlib.Core.List.{List, [], ◌∷◌, ◌++◌}
-use Prim.Native.Nat.{ℕ, zero, suc, ◌+◌, ◌<◌, ◌≤◌}
+use Prim.Native.Nat.{ℕ, suc, ◌<◌, ◌≤◌}
 use native.Mathlib.Omega.{arith}
 use borrow.Author.Tests.{eqb-true, ltb-true, eq-eqb}
 use lib.Dec.{eqb, ltb}
@@ -18,7 +18,7 @@ use Rattle.table.specs.Table.{live}
 use Rattle.table.specs.Rules.{numbered_table_refusal}
 use Rattle.table.specs.Line.{line, row_of, is_live}
 use Rattle.table.proofs.Accepting.{Accepted, accepted}
-use Rattle.plant.specs.Turn.{turn, turn_tested}
+use Rattle.plant.specs.Turn.{turn}
 use Rattle.plant.specs.Entry.{Entry, State, entry_of, is_crash, entry_refusal, acted, after}
 use Rattle.board.specs.Board.{tested, turn_of, outcome, round_closed}
 use Rattle.plant.proofs.RulesKept.{entry-facts}
@@ -63,27 +63,27 @@ at-board P f k b i new old =
     by_bool (eqb i k) (λ e. rw (e, eqb-true i k e) (new (eqb-true i k e))) (λ e. rw e old)
 
 module _ (w n : ℕ) (s : State) (a : Accepted w n s.table) where
-  abbrev T : List Entry → ℕ → List ℕ
+  abbrev pub T : List Entry → ℕ → List ℕ
   T es m = table_at w n s es m
 
-  Fits : List Entry → ℕ → Board → Type 0
+  unfoldable pub Fits : List Entry → ℕ → Board → Type 0
   Fits es k b = (b.in_force ≤ length es) × (b.line ≡ line n (T es b.in_force) k)
 
-  GoodReply : List Entry → Reply → Type 0
+  pub GoodReply : List Entry → Reply → Type 0
   GoodReply es r = (r.from < n) × ((e : ℕ) → r.turn ≡ suc e → (e ≤ length es) × ReplyOn n (T es e) r)
 
-  GoodEnd : List Entry → (ℕ → Board) → End → Type 0
+  pub GoodEnd : List Entry → (ℕ → Board) → End → Type 0
   GoodEnd es f x = x.from < n → (e : ℕ) → x.turn ≡ suc e → (e ≤ length es) × EndOn w n (T es e) (f x.from) x e
 
-  record Holds (y : System) : Type 0 where
-    boards : (k : ℕ) → k < n → Fits y.entries k (y.boards k)
-    taken : Taken w n s y.entries
-    replies : (x : ℕ) (r : Reply) → slice_get y.replies x ≡ Some r → GoodReply y.entries r
-    ends : (x : ℕ) (d : End) → slice_get y.ends x ≡ Some d → GoodEnd y.entries y.boards d
-    own : (m : ℕ) (e : Entry) → slice_get y.entries m ≡ Some e → is_crash e ≡ false → OwnOn w n (T y.entries m) (y.boards e.station) m e
+  pub record Holds (y : System) : Type 0 where
+    pub boards : (k : ℕ) → k < n → Fits y.entries k (y.boards k)
+    pub taken : Taken w n s y.entries
+    pub replies : (x : ℕ) (r : Reply) → slice_get y.replies x ≡ Some r → GoodReply y.entries r
+    pub ends : (x : ℕ) (d : End) → slice_get y.ends x ≡ Some d → GoodEnd y.entries y.boards d
+    pub own : (m : ℕ) (e : Entry) → slice_get y.entries m ≡ Some e → is_crash e ≡ false → OwnOn w n (T y.entries m) (y.boards e.station) m e
 
   -- at first
-  first : Holds (start n s)
+  pub first : Holds (start n s)
   unfolding start Fits after_all
   first = record {
     boards = λ k hk. (omega arith, refl);
@@ -211,12 +211,15 @@ module _ (w n : ℕ) (s : State) (a : Accepted w n s.table) where
       let fits = h.boards j low in
       let turn = eqb-true number (suc b.in_force) p.1 in
       rw q
-      (replied y (record { turn = number; from = j; row = row_of n b.line }) h
-      (low, λ e z.
-      let same : b.in_force ≡ e = omega (arith, turn, z) in
-      (omega (arith, fits.0, same),
-      subst (λ (e : ℕ). ReplyOn n (T y.entries e) (record { turn = number; from = j; row = row_of n b.line })) same
-      (record { row = ap (row_of n) fits.1; is_live = sym (live-line n (T y.entries b.in_force) j) ∙ (sym (ap is_live fits.1) ∙ r.1) })))))
+      (replied y (record { turn = number; from = j; row = row_of n b.line }) h (
+        low,
+        λ e z.
+            let same : b.in_force ≡ e = omega (arith, turn, z) in (
+              omega (arith, fits.0, same),
+              subst (λ (e : ℕ). ReplyOn n (T y.entries e) (record { turn = number; from = j; row = row_of n b.line })) same
+                  (record { row = ap (row_of n) fits.1; is_live = sym (live-line n (T y.entries b.in_force) j) ∙ (sym (ap is_live fits.1) ∙ r.1) }),
+            ),
+      )))
       (λ q. rw q h)
 
   -- a turn is made
@@ -235,18 +238,19 @@ module _ (w n : ℕ) (s : State) (a : Accepted w n s.table) where
     unfolding GoodEnd Fits
     good-end low e q =
         let fits = h.boards i low in
-        let same : b.in_force ≡ e = omega (arith, q) in
-        (omega (arith, fits.0, same),
-        rw (eq-eqb i i refl)
-        (subst (λ (e : ℕ). EndOn w n (T y.entries e) b' x e) same
-        (record {
-          reached = omega arith;
-          reply = reply;
-          heard = heard low;
-          outcome_sent = ap (λ (l : List ℕ). outcome w n i l reply) fits.1;
-          row = ap (row_of n) fits.1;
-          aside = λ _. ap (λ (l : List ℕ). Some (turn_of w n i l reply)) fits.1;
-        })))
+        let same : b.in_force ≡ e = omega (arith, q) in (
+          omega (arith, fits.0, same),
+          rw (eq-eqb i i refl)
+              (subst (λ (e : ℕ). EndOn w n (T y.entries e) b' x e) same
+              (record {
+                reached = omega arith;
+                reply = reply;
+                heard = heard low;
+                outcome_sent = ap (λ (l : List ℕ). outcome w n i l reply) fits.1;
+                row = ap (row_of n) fits.1;
+                aside = λ _. ap (λ (l : List ℕ). Some (turn_of w n i l reply)) fits.1;
+              })),
+        )
 
     turn-kept : Holds (turn_made w n y i reply)
     unfolding turn_made Fits
@@ -277,7 +281,7 @@ module _ (w n : ℕ) (s : State) (a : Accepted w n s.table) where
       (λ q. rw q h)
 
   -- an end comes to the master
-  accepted-all : (y : System) → Holds y → Accepted w n (after_all w n s y.entries).table
+  pub accepted-all : (y : System) → Holds y → Accepted w n (after_all w n s y.entries).table
   accepted-all y h =
       subst (λ (es : List Entry). Accepted w n (after_all w n s es).table) (take-length y.entries)
       (accepted-at w n s y.entries a h.taken (length y.entries))
@@ -348,11 +352,12 @@ module _ (w n : ℕ) (s : State) (a : Accepted w n s.table) where
         λ hk.
         let now : here.line ≡ line n was.table k = (h.boards k hk).1 ∙ ap (λ (v : ℕ). line n (T y.entries v) k) (sym next) in
         let made : b.line ≡ line n (after w n was e).table k =
-        line-after w n was (accepted-at w n s y.entries a h.taken m) e taken-here k hk here now heard (row-true heard good) own-true l z in
-        (omega (arith, slice_get_within y.entries m e g, next),
-        made
-        ∙ (ap (λ (v : State). line n v.table k) (sym (at-next w n s y.entries m e g))
-        ∙ ap (λ (v : ℕ). line n (T y.entries (suc v)) k) next)) in
+        line-after w n was (accepted-at w n s y.entries a h.taken m) e taken-here k hk here now heard (row-true heard good) own-true l z in (
+          omega (arith, slice_get_within y.entries m e g, next),
+          made
+              ∙ (ap (λ (v : State). line n v.table k) (sym (at-next w n s y.entries m e g))
+              ∙ ap (λ (v : ℕ). line n (T y.entries (suc v)) k) next),
+        ) in
         moved y h k b fits (record { further = omega arith; open_turn = λ e low z. absurd (omega arith) })
 
   note-kept : (y : System) → Holds y → (k m : ℕ) (o : Option Entry) (heard : Option End) → ((e : Entry) → o ≡ Some e → slice_get y.entries m ≡ Some e)
@@ -365,7 +370,7 @@ module _ (w n : ℕ) (s : State) (a : Accepted w n s.table) where
       (λ q. rw q (put-kept y h k m e (is e refl) (eqb-true m b.in_force q) heard good (line_by n k b (note_of w n (T y.entries m) e) heard) refl))
       (λ q. rw q h)
 
-  happening-kept : (y : System) → Holds y → (x : Happening) → Holds (after_happening w n s y x)
+  pub happening-kept : (y : System) → Holds y → (x : Happening) → Holds (after_happening w n s y x)
   happening-kept y h (test_comes j turn) = reply-kept y h j turn
   happening-kept y h (reply_comes i x) = heard-kept y h i (slice_get y.replies x) (h.replies x)
   happening-kept y h (none_comes i) = turn-kept y h i None (λ _. inl refl)
@@ -373,7 +378,7 @@ module _ (w n : ℕ) (s : State) (a : Accepted w n s.table) where
   happening-kept y h (crash_found i) = entry-kept y h (entry_of 3 i) (λ _ c. let z : true ≡ false = c in cc)
   happening-kept y h (note_comes k m x) = note-kept y h k m (slice_get y.entries m) (slice_get y.ends x) (λ e g. g) (h.ends x)
 
-  all-kept : (y : System) → Holds y → (hs : List Happening) → Holds (after_happenings w n s y hs)
+  pub all-kept : (y : System) → Holds y → (hs : List Happening) → Holds (after_happenings w n s y hs)
   unfolding after_happenings
   all-kept y h [] = h
   all-kept y h (x ∷ hs) = all-kept (after_happening w n s y x) (happening-kept y h x) hs
@@ -399,3 +404,8 @@ module _ (w n : ℕ) (s : State) (a : Accepted w n s.table) where
 pub boards-in-step : BoardsInStep
 boards-in-step w n s hs z =
     let a = accepted w n s.table z in in-step w n s a z (after_happenings w n s (start n s) hs) (all-kept w n s a (start n s) (first w n s a) hs)
+
+pub all-taken : (w n : ℕ) (s : State) (hs : List Happening) → numbered_table_refusal w n s.table ≡ 0
+    → Taken w n s (after_happenings w n s (start n s) hs).entries
+all-taken w n s hs z =
+    let a = accepted w n s.table z in (all-kept w n s a (start n s) (first w n s a) hs).taken

@@ -3,3 +3,5 @@ pub mod TurnHeard
 pub mod Entries
 pub mod Runs
 pub mod Kept
+pub mod OfRuns
+pub mod GetInForce

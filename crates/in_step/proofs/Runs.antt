@@ -1,20 +1,20 @@
 -- The entries that the master made are those of a run.
 -- Assumes nothing.
-use mathlib.Core.Path.{◌≡◌, refl, ap, ◌∙◌}
+use mathlib.Core.Path.{◌≡◌, refl, ap}
 use mathlib.Core.List.{List, [], ◌∷◌}
-use Prim.Native.Nat.{ℕ, zero, suc, ◌+◌, ◌*◌, ◌%◌, ◌≤◌}
+use Prim.Native.Nat.{ℕ, zero, suc, ◌+◌, ◌*◌, ◌%◌}
 use native.Mathlib.Omega.{arith}
-use borrow.Author.Tests.{eq-eqb, ne_eqb}
+use borrow.Author.Tests.{eq-eqb}
 use lib.ListN.{length, take}
 use Rattle.table.specs.Rules.{numbered_table_refusal}
 use Rattle.lists.proofs.RefusalLaws.{check_zero}
 use Rattle.plant.specs.Entry.{Entry, State, after, sheet_line}
-use Rattle.plant.specs.Run.{RunResult, entries, write_line, go_on, start_check, start_refusal, run}
+use Rattle.plant.specs.Run.{entries, write_line, go_on, start_check, start_refusal, run}
 use Rattle.in_step.specs.System.{after_all}
 use Rattle.in_step.specs.Claims.{schedule_of, IsRun}
 use Rattle.in_step.proofs.Entries.{Taken}
 
-entries-back : (es : List Entry) → entries (schedule_of es) ≡ es
+pub entries-back : (es : List Entry) → entries (schedule_of es) ≡ es
 unfolding entries
 entries-back [] = refl
 entries-back (e ∷ es) = ap (λ (xs : List Entry). e ∷ xs) (entries-back es)
@@ -38,12 +38,16 @@ module _ (w n : ℕ) where
       let rest = goes (suc k) (after w n s e) (write_line sheet k (sheet_line w n s e)) es t.1 in
       rw t.0 (rest.0, omega (arith, rest.1), rest.2)
 
+  pub run-starts : (s : State) (es : List Entry) (sheet : List ℕ) → numbered_table_refusal w n s.table ≡ 0 → length sheet ≡ 4 * length es
+      → start_refusal w n s.table (length (schedule_of es)) (length sheet) ≡ 0
+  run-starts s es sheet z long =
+      starts w n s.table (length (schedule_of es)) (length sheet) z (omega (arith, schedule-length es)) (omega (arith, schedule-length es, long))
+
   pub is-run : (s : State) (es : List Entry) (sheet : List ℕ) → numbered_table_refusal w n s.table ≡ 0 → Taken w n s es
       → length sheet ≡ 4 * length es → IsRun w n s es sheet
   unfolding run
   is-run s es sheet z t long =
-      let even : length (schedule_of es) % 2 ≡ 0 = omega (arith, schedule-length es) in
-      let ok = starts w n s.table (length (schedule_of es)) (length sheet) z even (omega (arith, schedule-length es, long)) in
+      let ok = run-starts s es sheet z long in
       let r = goes 0 s sheet es t in
       record {
         number = rw (ok, entries-back es) r.0;

@@ -1,20 +1,20 @@
 -- A turn by what the tester heard, and what an entry makes of each line.
 -- Assumes nothing.
 use mathlib.Core.Path.{◌≡◌, refl, sym, ap, ◌∙◌}
-use mathlib.Core.Logic.{◌≢◌, ◌⊎◌, inl, inr, ⊎_elim}
+use mathlib.Core.Logic.{◌≢◌, ◌⊎◌, ⊎_elim}
 use mathlib.Core.Bool.{Bool, true, false, cond, ◌&&◌}
-use mathlib.Core.List.{List, []}
-use Prim.Native.Nat.{ℕ, ◌+◌, ◌<◌, ◌≤◌}
+use mathlib.Core.List.{List}
+use Prim.Native.Nat.{ℕ, ◌+◌, ◌<◌}
 use native.Mathlib.Decide.{ℕ_discrete}
 use native.Mathlib.Omega.{arith}
-use borrow.Author.Tests.{eqb-true, eqb-false, eq-eqb, ne_eqb}
+use borrow.Author.Tests.{eq-eqb, ne_eqb}
 use lib.Dec.{eqb}
-use lib.ListN.{length, get_or, set}
+use lib.ListN.{get_or, set}
 use Rattle.std.specs.Prelude.{Option, None, Some, option_map}
 use Rattle.std.proofs.lemmas.Option.{same_Some, none-some}
 use Rattle.lists.proofs.BoolLaws.{by_bool, choice}
-use Rattle.table.specs.Table.{table_length, live, row, status_column, status_crashed}
-use Rattle.table.specs.Rules.{round_over, numbered_table_refusal}
+use Rattle.table.specs.Table.{live, row, status_column, status_crashed}
+use Rattle.table.specs.Rules.{round_over}
 use Rattle.table.specs.Line.{line, row_of, is_live}
 use Rattle.table.proofs.Accepting.{Accepted}
 use Rattle.table.proofs.LineLaws.{line_at, line-row, line-set, line-set-other}
@@ -25,7 +25,7 @@ use Rattle.plant.specs.Entry.{Entry, State, entry_of, is_crash, entry_refusal, a
 use Rattle.plant.specs.Entry.{outcome_of as entry_outcome}
 use Rattle.plant.proofs.RunLaws.{accepted-number}
 use Rattle.plant.proofs.RulesKept.{Takes, entry-facts, acted-lines}
-use Rattle.board.specs.Board.{tests, tested, turn_of, outcome_of, outcome, message, sent, received, round_closed, joined, left_told}
+use Rattle.board.specs.Board.{tests, tested, turn_of, outcome_of, outcome, message, received, round_closed, joined, left_told}
 use Rattle.cable.specs.Claims.{answered, reply_to, SameTurn}
 use Rattle.in_step.specs.System.{Board, End, Note, note_of, row_heard, own_line, tested_line, line_by}
 use Rattle.in_step.specs.Happenings.{entry_by}
@@ -64,6 +64,19 @@ row-answered : (n : ℕ) (t : List ℕ) (j : ℕ) → live n t j ≡ true → an
 unfolding answered replies
 row-answered n t j e = rw e
 
+module _ (w n i : ℕ) (l : List ℕ) where
+  pub none-outcome : tests w n i l ≡ true → outcome w n i l None ≡ 3
+  unfolding outcome outcome_of
+  none-outcome e = rw e
+
+  pub row-outcome : (r : List ℕ) → tests w n i l ≡ true → eqb (outcome w n i l (Some r)) 3 ≡ false
+  unfolding outcome
+  row-outcome r e = rw e (by-row i _ l r)
+
+  pub pass-outcome : tests w n i l ≡ false → (r : Option (List ℕ)) → outcome w n i l r ≡ 0
+  unfolding outcome
+  pass-outcome e r = rw e
+
 module _ (w n : ℕ) (t : List ℕ) (a : Accepted w n t) (i : ℕ) (h : i < n) (reply : Option (List ℕ)) (heard : Heard w n t i reply) where
   abbrev mine : List ℕ
   mine = line n t i
@@ -80,31 +93,19 @@ module _ (w n : ℕ) (t : List ℕ) (a : Accepted w n t) (i : ℕ) (h : i < n) (
   tested-same : turn_tested w n t i ≡ j
   tested-same = (same-turn w n t 1 i (accepted-number w n t a) h).tested_station
 
-  none-outcome : tests w n i mine ≡ true → outcome w n i mine None ≡ 3
-  unfolding outcome outcome_of
-  none-outcome e = rw e
-
-  row-outcome : (r : List ℕ) → tests w n i mine ≡ true → eqb (outcome w n i mine (Some r)) 3 ≡ false
-  unfolding outcome
-  row-outcome r e = rw e (by-row i _ mine r)
-
   -- of a turn that tests it is the reply that the table's turn has
   reply-heard : tests w n i mine ≡ true → reply ≡ reply_to w n t kind i
   reply-heard e =
       ⊎_elim
-      (λ (none : reply ≡ None). rw (none, tested-same, none-outcome e) (sym (none-answered n t j)))
+      (λ (none : reply ≡ None). rw (none, tested-same, none-outcome w n i mine e) (sym (none-answered n t j)))
       (λ (r : RowOf n t j reply).
-      rw (r.given, row-outcome (row_of n (line n t j)) e)
+      rw (r.given, row-outcome w n i mine (row_of n (line n t j)) e)
       (ap Some (line-row n t j a.long r.below) ∙ sym (row-answered n t j r.is_live)))
       heard
 
   finish-any : tests w n i mine ≡ false → (r r' : Option (List ℕ)) → turn_of w n i mine r ≡ turn_of w n i mine r'
   unfolding turn_of
   finish-any e r r' = rw e
-
-  finish-outcome : tests w n i mine ≡ false → (r r' : Option (List ℕ)) → outcome w n i mine r ≡ outcome w n i mine r'
-  unfolding outcome
-  finish-outcome e r r' = rw e
 
   -- so the line computed aside is that of the table after the turn that the master makes of it, and the outcome is that of the turn
   pub turn-heard : turn_of w n i mine reply ≡ line n (turn w n t kind i) i
@@ -117,7 +118,7 @@ module _ (w n : ℕ) (t : List ℕ) (a : Accepted w n t) (i : ℕ) (h : i < n) (
   outcome-heard =
       by_bool (tests w n i mine)
       (λ e. ap (outcome w n i mine) (reply-heard e) ∙ sym same.outcome_number)
-      (λ e. finish-outcome e reply (reply_to w n t kind i) ∙ sym same.outcome_number)
+      (λ e. pass-outcome w n i mine e reply ∙ sym (pass-outcome w n i mine e (reply_to w n t kind i)) ∙ sym same.outcome_number)
 
 -- the entry that the master makes of an end is a turn, and the line aside is the table's after it
 pub turn-entry : (c : Bool) (i : ℕ) → is_crash (entry_of (cond c 2 1) i) ≡ false

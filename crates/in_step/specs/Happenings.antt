@@ -1,7 +1,7 @@
 -- What may happen on a cable that loses, doubles and delays frames. A frame that is lost never comes, one that is doubled comes twice, and one that is
 -- late comes after others: so each frame that was sent may come at any time after that, to any board, as often as may be.
 -- Assumes nothing.
-use Rattle.std.specs.Prelude.{ℕ, suc, Bool, ◌&&◌, List, [], ◌∷◌, ◌++◌, length, Option, None, Some, is_none, slice_get, if◌then◌else◌, ◌==◌, nat_lt}
+use Rattle.std.specs.Prelude.{ℕ, suc, ◌&&◌, List, [], ◌∷◌, ◌++◌, length, Option, None, Some, is_none, slice_get, if◌then◌else◌, ◌==◌, nat_lt}
 use Rattle.table.specs.Table.{live}
 use Rattle.table.specs.Line.{row_of, is_live}
 use Rattle.station.specs.Outcome.{outcome_no_reply}

@@ -2,3 +2,6 @@
 pub mod System
 pub mod Happenings
 pub mod Claims
+pub mod Causes
+pub mod Waits
+pub mod InForce

@@ -1,13 +1,13 @@
 -- Boards that put the bus master's numbered entries in force: what each of them keeps, what was sent, and what a board makes of its line by an entry.
 -- w is the wiring's number, n the size of the plant, s the master's table and tally before its first entry.
 -- Assumes nothing.
-use Rattle.std.specs.Prelude.{ℕ, suc, Bool, ◌&&◌, List, [], ◌∷◌, set, take, Option, None, Some, option_and_then, option_map, if◌then◌else◌, ◌==◌}
+use Rattle.std.specs.Prelude.{ℕ, suc, Bool, ◌&&◌, List, [], ◌∷◌, set, take, Option, None, Some, option_map, if◌then◌else◌, ◌==◌}
 use Rattle.table.specs.Table.{status_column, status_crashed}
 use Rattle.table.specs.Line.{line}
 use Rattle.table.specs.Rules.{round_over}
 use Rattle.station.specs.Outcome.{outcome_exchanged, outcome_tested_told}
 use Rattle.plant.specs.Entry.{Entry, State, is_crash, acted, after, tested_of, outcome_of}
-use Rattle.board.specs.Board.{left_told, joined, round_closed}
+use Rattle.board.specs.Board.{left_told, joined}
 
 -- what a board keeps: how many entries are in force at it; its line; and, once it has made its turn with just these in force, the line that it
 -- computed aside

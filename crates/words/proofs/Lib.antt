@@ -1,0 +1,2 @@
+-- The laws that the proofs of `words` share.
+pub mod WordLaws

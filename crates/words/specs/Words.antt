@@ -1,0 +1,12 @@
+-- Bytes that are read eight at a time.
+-- Assumes nothing.
+use Rattle.std.specs.Prelude.{ℕ, Bool, List, length, nat_le, slice_index}
+use Rattle.lists.specs.Search.{every}
+
+-- the byte at place k is 0 or 1
+abbrev pub is_bit_at : List ℕ → ℕ → Bool
+is_bit_at a k = nat_le (slice_index a k) 1
+
+-- every byte of the list is
+unfoldable pub are_bits : List ℕ → Bool
+are_bits a = every (is_bit_at a) (length a)
