@@ -8,7 +8,7 @@ use crate::call::{size, Call};
 
 pub fn call(random: &mut Random) -> Call {
     match random.below(8) {
-        0 => words("vcube_refusal_words", 24, random),
+        0 => words("vcube_refusal_words", 25, random),
         1 => words("vcube_status_words", 3, random),
         2 => words("vcube_outcome_words", 5, random),
         _ => read_input(random),
