@@ -11,7 +11,7 @@ use borrow.Author.Tests.{eqb-true, eqb-false, eq-eqb, ne_eqb, lt-ltb}
 use lib.Dec.{eqb}
 use lib.ListN.{length, set, length-append}
 use lib.Seq.{take-length}
-use Rattle.std.specs.Prelude.{Option, None, Some, Result, Ok, slice_get}
+use Rattle.std.specs.Prelude.{Option, None, Some, Ok, slice_get}
 use Rattle.lists.proofs.BoolLaws.{by_bool}
 use Rattle.table.specs.Table.{finished, live, status_column, status_crashed}
 use Rattle.table.specs.Line.{line, row_of, is_live}
@@ -28,7 +28,8 @@ use Rattle.cable.specs.Boards.{row_from, named, tester_after, tester_answer}
 use Rattle.cable.proofs.CallsOnCable.{answers, idle-answers}
 use Rattle.plant.proofs.RunLaws.{accepted-number}
 use Rattle.in_step.specs.System.{Board, Reply, End, System, start, after_all, table_at, Note, note_of, row_heard, own_line, tested_line, line_by}
-use Rattle.in_step.specs.Happenings.{with_board, reply_sent, turn_ended, turn_made, reply_heard, entry_made, entry_by, end_heard, put_in_force, note_heard, Happening, after_happening, after_happenings}
+use Rattle.in_step.specs.Happenings.{with_board, reply_sent, turn_ended, turn_made, reply_heard, entry_made, entry_by, end_heard}
+use Rattle.in_step.specs.Happenings.{put_in_force, note_heard, Happening, after_happening, after_happenings}
 use Rattle.in_step.specs.Happenings.Happening.{test_comes, reply_comes, none_comes, end_comes, crash_found, note_comes}
 use Rattle.in_step.specs.InForce.{AsMade, EntriesGetInForce}
 use Rattle.in_step.proofs.Entries.{after_all-snoc}
@@ -132,7 +133,8 @@ module _ (w n : ℕ) (s : State) (a : Accepted w n s.table) where
       end = h.end;
     }
       where
-        pick : (i : ℕ) → i < suc k → Dec (i ≡ k) → ((cond (eqb i k) b' (y.boards i)).in_force ≡ suc m) × ((cond (eqb i k) b' (y.boards i)).aside ≡ None)
+        pick : (i : ℕ) → i < suc k → Dec (i ≡ k)
+            → ((cond (eqb i k) b' (y.boards i)).in_force ≡ suc m) × ((cond (eqb i k) b' (y.boards i)).aside ≡ None)
         pick i hi (yes q) = rw (eq-eqb i k q) (ap suc now, refl)
         pick i hi (no d) = rw (ne_eqb i k d) (h.before i (omega arith))
 
@@ -276,7 +278,8 @@ module _ (w n : ℕ) (s : State) (a : Accepted w n s.table) where
       none-makes : (o : ℕ) → tester_answer w n own (line n t own) None ≡ Ok o → kind_by o (live n t j) ≡ e.kind → Makes y e
       unfolding Makes after_happenings
       none-makes o ans k =
-          let says : tester_answer w n own mine.line None ≡ Ok o = ap (λ (l : List ℕ). tester_answer w n own l None) (line-now own facts.below) ∙ ans in
+          let says : tester_answer w n own mine.line None ≡ Ok o =
+          ap (λ (l : List ℕ). tester_answer w n own l None) (line-now own facts.below) ∙ ans in
           let q : entry_of (kind_by o (live n t j)) own ≡ e = ap (λ (k : ℕ). entry_of k own) k in (
             none_comes own ∷ end_comes 0 ∷ [],
             subst (λ (u : System). MadeIn y e (after_happenings w n s u (end_comes 0 ∷ []))) (sym (turn-gives y e v.levels ok None o says))
@@ -320,9 +323,11 @@ module _ (w n : ℕ) (s : State) (a : Accepted w n s.table) where
           ∙ ap (λ (l : List ℕ). named (next_answer w n own l)) (sym (line-now own facts.below)) in
           let q : entry_of (kind_by o (live n t j)) own ≡ e = ap (λ (k : ℕ). entry_of k own) k in (
             test_comes j (suc (length y.entries)) ∷ reply_comes own 0 ∷ end_comes 0 ∷ [],
-            subst (λ (u : System). MadeIn y e (after_happenings w n s (reply_heard w n u own (slice_get u.replies 0)) (end_comes 0 ∷ []))) (sym (test-gives hj l))
+            subst (λ (u : System). MadeIn y e (after_happenings w n s (reply_heard w n u own (slice_get u.replies 0)) (end_comes 0 ∷ [])))
+                (sym (test-gives hj l))
                 (subst (λ (u : System). MadeIn y e (after_happenings w n s u (end_comes 0 ∷ []))) (sym (reply-gives is))
-                (subst (λ (u : System). MadeIn y e (after_happenings w n s u (end_comes 0 ∷ []))) (sym (turn-gives tried e v.levels ok (Some r.packed) o says))
+                (subst (λ (u : System). MadeIn y e (after_happenings w n s u (end_comes 0 ∷ [])))
+                (sym (turn-gives tried e v.levels ok (Some r.packed) o says))
                 (subst (MadeIn y e) (sym (end-gives tried e v.levels ok (Some r.packed) o says q))
                 (record { entries = refl; noted = entered-noted tried e v.levels ok (Some r.packed) o says })))),
           )

@@ -26,7 +26,8 @@ use Rattle.cable.specs.Boards.{row_from, named, tester_after, tester_answer}
 use Rattle.lists.specs.declared.refusal.Refusal.{Refusal}
 use Rattle.plant.proofs.RulesKept.{entry-facts}
 use Rattle.in_step.specs.System.{Board, Reply, End, System, start, after_all, table_at, Note, note_of, row_heard, line_by}
-use Rattle.in_step.specs.Happenings.{with_board, reply_sent, turn_ended, turn_made, reply_heard, entry_made, entry_by, end_heard, put_in_force, note_heard, Happening, after_happening, after_happenings}
+use Rattle.in_step.specs.Happenings.{with_board, reply_sent, turn_ended, turn_made, reply_heard, entry_made, entry_by, end_heard}
+use Rattle.in_step.specs.Happenings.{put_in_force, note_heard, Happening, after_happening, after_happenings}
 use Rattle.in_step.specs.Happenings.Happening.{test_comes, reply_comes, none_comes, end_comes, crash_found, note_comes}
 use Rattle.in_step.specs.Claims.{InStep, BoardsInStep}
 use Rattle.in_step.proofs.TurnHeard.{row-written, RowOf, Heard, live-line, own-turn, own-outcome, line-after}
@@ -121,11 +122,17 @@ module _ (w n : ℕ) (s : State) (a : Accepted w n s.table) where
       taken = h.taken;
       replies = h.replies;
       ends = λ x d g low e q.
-          let old = h.ends x d g low e q in
-          (old.0, at-board (λ i b. EndOn w n (T y.entries e) b d e) y.boards k b d.from (λ z. moved-end d e (subst (λ (v : ℕ). EndOn w n (T y.entries e) (y.boards v) d e) z old.1)) old.1);
+          let old = h.ends x d g low e q in (
+            old.0,
+            at-board (λ i b. EndOn w n (T y.entries e) b d e) y.boards k b d.from
+                (λ z. moved-end d e (subst (λ (v : ℕ). EndOn w n (T y.entries e) (y.boards v) d e) z old.1))
+                old.1,
+          );
       own = λ m e g c.
           let old = h.own m e g c in
-          at-board (λ i b. OwnOn w n (T y.entries m) b m e) y.boards k b e.station (λ z. moved-own m e (subst (λ (v : ℕ). OwnOn w n (T y.entries m) (y.boards v) m e) z old)) old;
+          at-board (λ i b. OwnOn w n (T y.entries m) b m e) y.boards k b e.station
+          (λ z. moved-own m e (subst (λ (v : ℕ). OwnOn w n (T y.entries m) (y.boards v) m e) z old))
+          old;
     }
 
   -- one more reply, and one more end
@@ -193,7 +200,8 @@ module _ (w n : ℕ) (s : State) (a : Accepted w n s.table) where
     }
 
   entry-kept : (y : System) → Holds y → (e : Entry)
-      → (entry_refusal n (after_all w n s y.entries) e ≡ 0 → is_crash e ≡ false → OwnOn w n (T y.entries (length y.entries)) (y.boards e.station) (length y.entries) e)
+      → (entry_refusal n (after_all w n s y.entries) e ≡ 0 → is_crash e ≡ false
+      → OwnOn w n (T y.entries (length y.entries)) (y.boards e.station) (length y.entries) e)
       → Holds (entry_made w n s y e)
   unfolding entry_made
   entry-kept y h e mine =
@@ -283,7 +291,8 @@ module _ (w n : ℕ) (s : State) (a : Accepted w n s.table) where
         (λ q. rw q h)
 
   -- a reply comes
-  heard-kept : (y : System) → Holds y → (i : ℕ) (o : Option Reply) → ((r : Reply) → o ≡ Some r → GoodReply y.entries r) → Holds (reply_heard w n y i o)
+  heard-kept : (y : System) → Holds y → (i : ℕ) (o : Option Reply) → ((r : Reply) → o ≡ Some r → GoodReply y.entries r)
+      → Holds (reply_heard w n y i o)
   unfolding reply_heard GoodReply Fits
   heard-kept y h i None good = h
   heard-kept y h i (Some r) good =

@@ -95,7 +95,8 @@ module _ (w n : ℕ) where
     late : (j : ℕ) → was_late j (taken_all s calls) ≡ true → NoReplyOf w n s es j
     late j l = find-late s es t j (subst (λ (xs : List Taken). was_late j xs ≡ true) taken-same l)
 
-    pub suspected-late : none_suspected n s.table ≡ true → (i j : ℕ) → i < n → j < n → Suspicion n (after_all w n s es).table i j → NoReplyOf w n s es j
+    pub suspected-late : none_suspected n s.table ≡ true → (i j : ℕ) → i < n → j < n → Suspicion n (after_all w n s es).table i j
+        → NoReplyOf w n s es j
     suspected-late none i j hi hj p =
         ⊎_elim (λ (q : IsSuspected n s.table j). absurd (none-suspects n s.table none j hj q)) (late j)
         (accurate.only_late i j hi hj (subst (λ (v : State). Suspicion n v.table i j) (sym end-same) p))

@@ -9,7 +9,7 @@ use native.Mathlib.Decide.{ℕ_discrete}
 use native.Mathlib.Omega.{arith}
 use borrow.Author.Tests.{eqb-true, eqb-false, eq-eqb, ne_eqb}
 use lib.Dec.{eqb}
-use lib.ListN.{length, get_or, set}
+use lib.ListN.{get_or, set}
 use Rattle.std.specs.Prelude.{Option, None, Some, Result, Ok, option_map}
 use Rattle.std.specs.Result.{result_unwrap_or}
 use Rattle.std.proofs.lemmas.Option.{same_Some, none-some}
@@ -26,18 +26,19 @@ use Rattle.plant.specs.Entry.{Entry, State, entry_of, is_crash, entry_refusal, a
 use Rattle.plant.specs.Entry.{outcome_of as entry_outcome}
 use Rattle.plant.proofs.RunLaws.{accepted-number}
 use Rattle.plant.proofs.RulesKept.{Takes, entry-facts, acted-lines}
-use Rattle.board.specs.Board.{tests, outcome_of, outcome, received, message, joined, round_closed}
-use Rattle.board.specs.Packed.{packed_length, pack, heard as row_of_packed}
+use Rattle.board.specs.Board.{tests, outcome_of, outcome, received, message}
+use Rattle.board.specs.Packed.{pack, heard as row_of_packed}
 use Rattle.board.specs.Calls.{line_check, next_answer, told_after, exchanged_after, closed_after}
 use Rattle.cable.specs.Boards.{row_from, named, tester_after, tester_answer}
 use Rattle.cable.proofs.LineFacts.{line-ok}
 use Rattle.cable.proofs.RowsSent.{pack-length, rows-travel}
-use Rattle.cable.proofs.CallsOnCable.{row-ok, live-ok, exchanged-ok, packed_reply, asks, asks-nobody, leaves, answers, idle-leaves, idle-answers, answering, told-leaves, others-keep}
+use Rattle.cable.proofs.CallsOnCable.{row-ok, live-ok, exchanged-ok, packed_reply, asks, asks-nobody}
+use Rattle.cable.proofs.CallsOnCable.{leaves, answers, idle-leaves, idle-answers, answering, told-leaves, others-keep}
 use Rattle.table.proofs.CellLaws.{line-holds, accepted-line}
 use Rattle.cable.specs.Claims.{answered, reply_to, SameTurn}
 use Rattle.in_step.specs.System.{Board, End, Note, note_of, row_heard, own_line, tested_line, line_by}
 use Rattle.in_step.specs.Happenings.{entry_by}
-use Rattle.cable.proofs.TurnByLines.{same-turn, tests-line, tested-below, tested-apart, none-tested, finish-outcome}
+use Rattle.cable.proofs.TurnByLines.{same-turn, tests-line, tested-apart, none-tested, finish-outcome}
 use Rattle.cable.proofs.ClosingByLines.{boards-close}
 
 same_Ok : {A B : Type 0} {x y : A} → ◌≡◌ {A = Result A B} (Ok x) (Ok y) → x ≡ y
@@ -142,6 +143,13 @@ module _ (w n : ℕ) (t : List ℕ) (a : Accepted w n t) (i : ℕ) (h : i < n) (
       → tester_after w n i mine reply ≡ line n (turn w n t kind i) i → IsTurn reply o
   with-kind reply o kind k e l = record { outcome = rw k e; line_aside = rw k l }
 
+  number : (reply : Option (List ℕ)) (o kind : ℕ) → tester_answer w n i mine reply ≡ Ok o → makes_test w n t i ≡ true
+      → packed_reply w n t kind i ≡ reply → o ≡ turn_outcome w n t kind i
+  number reply o kind says m q =
+      same_Ok
+      (sym says
+      ∙ subst (λ (p : Option (List ℕ)). tester_answer w n i mine p ≡ Ok (turn_outcome w n t kind i)) q (answers w n t kind i z h alive going m))
+
   pub turn-heard : (reply : Option (List ℕ)) → Heard w n t i reply → (o : ℕ) → tester_answer w n i mine reply ≡ Ok o → IsTurn reply o
   turn-heard reply heard o says =
       by_bool (makes_test w n t i)
@@ -150,15 +158,13 @@ module _ (w n : ℕ) (t : List ℕ) (a : Accepted w n t) (i : ℕ) (h : i < n) (
       (λ (none : reply ≡ None).
       let kind : ℕ = kind_by 3 (live n t j) in
       let q : packed_reply w n t kind i ≡ reply = none-comes ∙ sym none in
-      let is : o ≡ turn_outcome w n t kind i = same_Ok (sym says ∙ subst (λ (p : Option (List ℕ)). tester_answer w n i mine p ≡ Ok (turn_outcome w n t kind i)) q
-      (answers w n t kind i z h alive going m)) in
+      let is : o ≡ turn_outcome w n t kind i = number reply o kind says m q in
       with-kind reply o kind (ap (λ (o : ℕ). kind_by o (live n t j)) (is ∙ none-number m)) is
       (subst (λ (p : Option (List ℕ)). tester_after w n i mine p ≡ line n (turn w n t kind i) i) q (leaves w n t kind i z h alive going m)))
       (λ (r : RowOf n t (named (next_answer w n i mine)) reply).
       let l : live n t j ≡ true = ap (live n t) (sym (names m)) ∙ r.is_live in
       let q : packed_reply w n t 1 i ≡ reply = row-comes l ∙ sym (r.given ∙ ap (λ (j : ℕ). Some (pack n (row_of n (line n t j)))) (names m)) in
-      let is : o ≡ turn_outcome w n t 1 i = same_Ok (sym says ∙ subst (λ (p : Option (List ℕ)). tester_answer w n i mine p ≡ Ok (turn_outcome w n t 1 i)) q
-      (answers w n t 1 i z h alive going m)) in
+      let is : o ≡ turn_outcome w n t 1 i = number reply o 1 says m q in
       let not3 : eqb o 3 ≡ false = ap (λ (o : ℕ). eqb o 3) is ∙ row-number m l in
       with-kind reply o 1 (rw not3 refl) is
       (subst (λ (p : Option (List ℕ)). tester_after w n i mine p ≡ line n (turn w n t 1 i) i) q (leaves w n t 1 i z h alive going m)))
@@ -318,7 +324,8 @@ module _ (w n : ℕ) (s : State) (a : Accepted w n s.table) (e : Entry) (taken :
 
         turned : is_crash e ≡ false → k ≢ i → Dec (k ≡ turn_tested w n t i) → l ≡ line n (acted w n t e) k
         turned c d (yes q) =
-            let z : tested_line w n k b note heard ≡ Some l = rw (ne_eqb k i d, eq-eqb k (turn_tested w n t i) q) at (shape (turn_tested w n t i) (tested_here c d)) in
+            let z : tested_line w n k b note heard ≡ Some l =
+            rw (ne_eqb k i d, eq-eqb k (turn_tested w n t i) q) at (shape (turn_tested w n t i) (tested_here c d)) in
             was_tested c d q l z
         turned c d (no nj) =
             let z : Some b.line ≡ Some l = rw (ne_eqb k i d, ne_eqb k (turn_tested w n t i) nj) at (shape (turn_tested w n t i) (tested_here c d)) in

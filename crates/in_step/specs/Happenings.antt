@@ -1,7 +1,8 @@
--- What may happen on a cable that loses, doubles and delays frames. A frame that is lost never comes, one that is doubled comes twice, and one that is
--- late comes after others: so each frame that was sent may come at any time after that, to any board, as often as may be.
+-- What may happen on a cable that loses, doubles and delays frames. A frame that is lost never comes, one that is doubled comes twice, and one that
+-- is late comes after others: so each frame that was sent may come at any time after that, to any board, as often as may be.
 -- Assumes nothing.
-use Rattle.std.specs.Prelude.{ℕ, suc, ◌&&◌, List, [], ◌∷◌, ◌++◌, length, Option, None, Some, Result, Ok, Err, is_none, slice_get, if◌then◌else◌, ◌==◌, nat_lt}
+use Rattle.std.specs.Prelude.{ℕ, suc, ◌&&◌, List, [], ◌∷◌, ◌++◌, length, Option, None, Some, Result, Ok, Err, is_none, slice_get}
+use Rattle.std.specs.Prelude.{if◌then◌else◌, ◌==◌, nat_lt}
 use Rattle.table.specs.Table.{live}
 use Rattle.table.specs.Line.{is_live}
 use Rattle.station.specs.Outcome.{outcome_no_reply}
@@ -16,8 +17,8 @@ use Rattle.in_step.specs.System.{Board, Reply, End, System, after_all, table_at,
 abbrev pub with_board : System → ℕ → Board → System
 with_board y k b = record y { boards = λ i. if i == k then b else y.boards i }
 
--- Rules Answers in step and Silent: board j replies to a test of the turn that follows the entries in force at it, if it is live: with its row, by call
--- board row. Nothing else changes
+-- Rules Answers in step and Silent: board j replies to a test of the turn that follows the entries in force at it, if it is live: with its row, by
+-- call board row. Nothing else changes
 unfoldable pub reply_sent : ℕ → ℕ → System → ℕ → ℕ → System
 reply_sent w n y j turn =
     let b = y.boards j in
@@ -61,8 +62,8 @@ end_heard w n s y None = y
 end_heard w n s y (Some x) =
     if x.turn == suc (length y.entries) then entry_made w n s y (entry_by w n (after_all w n s y.entries).table x) else y
 
--- the entry of the note is in force at board k, with the line that it made of it, closed by call board round closed if the entry closed the round; and
--- the turn that the board made, if any, is over. If it could make no line, nothing is done
+-- the entry of the note is in force at board k, with the line that it made of it, closed by call board round closed if the entry closed the round;
+-- and the turn that the board made, if any, is over. If it could make no line, nothing is done
 unfoldable pub put_in_force : ℕ → ℕ → System → ℕ → Note → Option (List ℕ) → System
 put_in_force w n y k note None = y
 put_in_force w n y k note (Some l) =

@@ -70,8 +70,8 @@ row_heard b i (Some x) = if x.turn == suc b.in_force && x.from == i then Some x.
 unfoldable pub own_line : Board → Note → Option (List ℕ)
 own_line b note = if is_crash note.entry then Some (set b.line status_column status_crashed) else b.aside
 
--- Rule In force, of board k that was tested, by its calls: board told; or board exchanged, with the row that the tester sent, which it must have heard;
--- else its line stays
+-- Rule In force, of board k that was tested, by its calls: board told; or board exchanged, with the row that the tester sent, which it must have
+-- heard; else its line stays
 unfoldable pub tested_line : ℕ → ℕ → ℕ → Board → Note → Option End → Option (List ℕ)
 tested_line w n k b note heard =
     let i = note.entry.station in

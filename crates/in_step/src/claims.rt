@@ -1,5 +1,5 @@
-// What is claimed of boards that put entries in force (specs/Claims.antt, Causes.antt, Waits.antt, InForce.antt), each the contract of a function that does
-// nothing.
+// What is claimed of boards that put entries in force (specs/Claims.antt, Causes.antt, Waits.antt, InForce.antt), each the contract of a function
+// that does nothing.
 
 ghost use Rattle.in_step.specs.Claims.{BoardsInStep};
 ghost use Rattle.in_step.specs.Causes.{CausesInStep};
