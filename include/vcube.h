@@ -434,45 +434,47 @@ uint8_t vcube_read_input(const uint8_t *input, size_t input_length, uint8_t *sch
  * live one has finished its pass.
  *
  * That is for a cable that loses nothing. On one that loses frames a board computes a turn on a copy of its line, which becomes its line once the
- * bus master has noted that turn (RULES, "Entries in force").
+ * bus master has noted that turn, and the tested board calls vcube_board_told or vcube_board_exchanged only by that note (RULES, "Entries in
+ * force").
  *
  * The errors of each call are among these, in this order: 24, 1, 9 (board is n or more), 25, 3, 10, 11, 9 (by or from is n or more, or is board
- * itself), 13 (the packed row has another length). No call leaves a line that gets 25 or 3 in the next (Rule Line kept). */
+ * itself), 13 (the packed row has another length). From a valid line no call leaves one that gets 25 or 3 in the next, with the same wiring, n and
+ * board; nor does vcube_board_fresh, if it is not refused (Rule Line kept). */
 
-/* Board fresh: the line becomes a line of a fresh table.
+/* Board, fresh: the line becomes a line of a fresh table. Once, when the plant is commissioned: a board that left would be live again.
  * Errors: 24, 1, 9, 25. */
 uint8_t vcube_board_fresh(size_t wiring, size_t n, size_t board, uint8_t *line, size_t line_length);
 
-/* Board next: the board that the next turn tests, into *tested; VCUBE_NO_STATION where there is none, so that the turn finishes the pass.
+/* Board, next: the board that the next turn tests, into *tested; VCUBE_NO_STATION where there is none, so that the turn finishes the pass.
  * Errors: 24, 1, 9, 25, 3, 10, 11. */
 uint8_t vcube_board_next(size_t wiring, size_t n, size_t board, const uint8_t *line, size_t line_length, size_t *tested);
 
-/* Board row: the board's row, packed, as a reply or an exchange. A board that is not live gets 10, and sends nothing.
+/* Board, row: the board's row, packed, as a reply or an exchange. A board that is not live gets 10, and sends no row.
  * Errors: 24, 1, 9, 25, 3, 10, 13. */
 uint8_t vcube_board_row(size_t wiring, size_t n, size_t board, const uint8_t *line, size_t line_length, uint8_t *packed,
                         size_t packed_length);
 
-/* Board replied: the turn, with the reply of the board that vcube_board_next names; its outcome (enum vcube_outcome) into *outcome. Where it
- * names none, the turn finishes the pass, and the reply is not looked at.
+/* Board, replied: the turn, with the reply of the board that vcube_board_next names; its outcome (enum vcube_outcome) into *outcome. Where it
+ * names none, the turn finishes the pass, and of the reply only the length is looked at.
  * Errors: 24, 1, 9, 25, 3, 10, 11, 13. */
 uint8_t vcube_board_replied(size_t wiring, size_t n, size_t board, uint8_t *line, size_t line_length, const uint8_t *packed,
                             size_t packed_length, size_t *outcome);
 
-/* Board not replied: the turn without a reply in time; *outcome is VCUBE_OUTCOME_NO_REPLY, or VCUBE_OUTCOME_PASS_FINISHED where
+/* Board, not replied: the turn without a reply in time; *outcome is VCUBE_OUTCOME_NO_REPLY, or VCUBE_OUTCOME_PASS_FINISHED where
  * vcube_board_next names none.
  * Errors: 24, 1, 9, 25, 3, 10, 11. */
 uint8_t vcube_board_not_replied(size_t wiring, size_t n, size_t board, uint8_t *line, size_t line_length, size_t *outcome);
 
-/* Board told: the board leaves, told by the board `by`, which tested it.
+/* Board, told: the board leaves, told by the board `by`, which tested it.
  * Errors: 24, 1, 9, 25, 3, 10, 9. */
 uint8_t vcube_board_told(size_t wiring, size_t n, size_t board, uint8_t *line, size_t line_length, size_t by);
 
-/* Board exchanged: the board joins into its row that of the board `from`, which tested it.
+/* Board, exchanged: the board joins into its row that of the board `from`, which tested it.
  * Errors: 24, 1, 9, 25, 3, 10, 9, 13. */
 uint8_t vcube_board_exchanged(size_t wiring, size_t n, size_t board, uint8_t *line, size_t line_length, size_t from, const uint8_t *packed,
                               size_t packed_length);
 
-/* Board round closed: closes the round in the board's line.
+/* Board, round closed: closes the round in the board's line.
  * Errors: 24, 1, 9, 25, 3. */
 uint8_t vcube_board_round_closed(size_t wiring, size_t n, size_t board, uint8_t *line, size_t line_length);
 

@@ -93,7 +93,8 @@ static int make_turn(const struct turn *turn)
     return 0;
 }
 
-/* Whether some board is live and every live one has finished its pass. Of a plant the bus master knows it by the outcomes. */
+/* Whether some board is live and every live one has finished its pass. On a plant the bus master knows it by the table on which it runs the
+ * entries. */
 static int is_round_over(void)
 {
     int live = 0, finished = 0;
