@@ -5,12 +5,12 @@ use crate::numbers::Station;
 use crate::refusal::{number_of, Refusal};
 use crate::run::NO_STATION;
 
-/// Board fresh: refusals 24, 1, 9, 25.
+/// Board, fresh: refusals 24, 1, 9, 25.
 pub fn board_fresh(given: Given, line: &mut [u8]) -> u8 {
     write(Board::fresh(given, line.len()), line)
 }
 
-/// Board next: refusals 24, 1, 9, 25, 3, 10, 11. Gives the number and the tested station.
+/// Board, next: refusals 24, 1, 9, 25, 3, 10, 11. Gives the number and the tested station.
 pub fn board_next(given: Given, line: &[u8]) -> (u8, u8) {
     match admit_turn(given, line) {
         Ok(board) => (0, board.next_tested().map_or(NO_STATION, Station::number)),
@@ -18,7 +18,7 @@ pub fn board_next(given: Given, line: &[u8]) -> (u8, u8) {
     }
 }
 
-/// Board row: refusals 24, 1, 9, 25, 3, 10, 13.
+/// Board, row: refusals 24, 1, 9, 25, 3, 10, 13.
 pub fn board_row(given: Given, line: &[u8], packed: &mut [u8]) -> u8 {
     let admitted = admit_live(given, line).and_then(|board| board.check_packed(packed));
     if let Ok(board) = &admitted {
@@ -27,18 +27,18 @@ pub fn board_row(given: Given, line: &[u8], packed: &mut [u8]) -> u8 {
     number_of(&admitted)
 }
 
-/// Board replied: refusals 24, 1, 9, 25, 3, 10, 11, 13. Gives the number and the outcome.
+/// Board, replied: refusals 24, 1, 9, 25, 3, 10, 11, 13. Gives the number and the outcome.
 pub fn board_replied(given: Given, line: &mut [u8], packed: &[u8]) -> (u8, u8) {
     let admitted = admit_turn(given, line).and_then(|board| board.check_packed(packed));
     turn(admitted, Some(packed), line)
 }
 
-/// Board not replied: refusals 24, 1, 9, 25, 3, 10, 11. Gives the number and the outcome.
+/// Board, not replied: refusals 24, 1, 9, 25, 3, 10, 11. Gives the number and the outcome.
 pub fn board_not_replied(given: Given, line: &mut [u8]) -> (u8, u8) {
     turn(admit_turn(given, line), None, line)
 }
 
-/// Board told: refusals 24, 1, 9, 25, 3, 10, 9.
+/// Board, told: refusals 24, 1, 9, 25, 3, 10, 9.
 pub fn board_told(given: Given, line: &mut [u8], by: u8) -> u8 {
     let told = admit_live(given, line).and_then(|mut board| {
         let by = board.another(by)?;
@@ -48,7 +48,7 @@ pub fn board_told(given: Given, line: &mut [u8], by: u8) -> u8 {
     write(told, line)
 }
 
-/// Board exchanged: refusals 24, 1, 9, 25, 3, 10, 9, 13.
+/// Board, exchanged: refusals 24, 1, 9, 25, 3, 10, 9, 13.
 pub fn board_exchanged(given: Given, line: &mut [u8], from: u8, packed: &[u8]) -> u8 {
     let joined = admit_live(given, line).and_then(|board| {
         let from = board.another(from)?;
@@ -59,7 +59,7 @@ pub fn board_exchanged(given: Given, line: &mut [u8], from: u8, packed: &[u8]) -
     write(joined, line)
 }
 
-/// Board round closed: refusals 24, 1, 9, 25, 3.
+/// Board, round closed: refusals 24, 1, 9, 25, 3.
 pub fn board_round_closed(given: Given, line: &mut [u8]) -> u8 {
     let closed = Board::admit(given, line).map(|mut board| {
         board.close_round();

@@ -66,8 +66,9 @@ impl fmt::Debug for PackedRow {
     }
 }
 
-/// A board of a plant and its own line, which keeps the line rules: no call leaves
-/// one that the next refuses (Rule Line kept).
+/// A board of a plant and its own line, which keeps the line rules: it was made by
+/// [`new`](Board::new) or checked by [`from_line`](Board::from_line), and from such a
+/// line no call leaves one that the next refuses with 25 or 3 (Rule Line kept).
 ///
 /// In its turn a board asks for its [`next`](Board::next) test. If there is one, it
 /// sends that board a test, and if that board is live, it replies with its
@@ -81,7 +82,9 @@ impl fmt::Debug for PackedRow {
 ///
 /// That is for a cable that loses nothing. On one that loses frames a board computes
 /// a turn on a clone of itself, which it becomes once the bus master has noted that
-/// turn (docs/RULES.md, "Entries in force").
+/// turn, and the tested board is [`told`](Board::told) or has
+/// [`exchanged`](Board::exchanged) only by that note (docs/RULES.md, "Entries in
+/// force").
 ///
 /// ```
 /// use vcube::{Board, Outcome, Refusal, Station, Wiring};
@@ -115,8 +118,8 @@ pub struct Board {
 }
 
 impl Board {
-    /// Board fresh: board `own` of a plant of n, with a line of a fresh table.
-    /// Refusals: 1, 9.
+    /// Board, fresh: board `own` of a plant of n, with a line of a fresh table. Once, when
+    /// the plant is commissioned: a board that left would be live again. Refusals: 1, 9.
     ///
     /// ```
     /// use vcube::{Board, Refusal, Station, Wiring};
@@ -198,7 +201,7 @@ impl Board {
         Status::from_number(self.bytes[0]).expect("the line rules take 0 to 3")
     }
 
-    /// Board next: the board that the next turn tests; none where the turn finishes
+    /// Board, next: the board that the next turn tests; none where the turn finishes
     /// the pass.
     /// Refusals: 10, 11.
     ///
@@ -215,8 +218,8 @@ impl Board {
         Ok((tested != usize::from(NO_STATION)).then_some(Station(tested)))
     }
 
-    /// Board row: the board's row, packed, as a reply or an exchange. A board that is
-    /// not live is refused, and sends nothing.
+    /// Board, row: the board's row, packed, as a reply or an exchange. A board that is
+    /// not live is refused, and sends no row.
     /// Refusals: 10.
     ///
     /// ```
@@ -234,9 +237,9 @@ impl Board {
         Ok(row)
     }
 
-    /// Board replied: the turn, with the reply of the board that [`Board::next`] gives;
-    /// its outcome. Where that gives none, the turn finishes the pass, and the reply is
-    /// not looked at. Any bytes of the length [`packed_length`] are a row.
+    /// Board, replied: the turn, with the reply of the board that [`Board::next`] gives;
+    /// its outcome. Where that gives none, the turn finishes the pass, and of the reply
+    /// only the length is looked at. Any bytes of the length [`packed_length`] are a row.
     /// Refusals: 10, 11, 13.
     ///
     /// ```
@@ -254,7 +257,7 @@ impl Board {
         Ok(outcome_of(outcome))
     }
 
-    /// Board not replied: the turn without a reply in time. Its outcome is
+    /// Board, not replied: the turn without a reply in time. Its outcome is
     /// [`Outcome::NoReply`], or [`Outcome::PassFinished`] where [`Board::next`] gives
     /// none.
     /// Refusals: 10, 11.
@@ -273,7 +276,7 @@ impl Board {
         Ok(outcome_of(outcome))
     }
 
-    /// Board told: the board leaves, told by the board `by`, which tested it.
+    /// Board, told: the board leaves, told by the board `by`, which tested it.
     /// Refusals: 10, 9.
     ///
     /// ```
@@ -291,7 +294,7 @@ impl Board {
         accepted(raw::board_told(wiring, n, own, self.line_mut(), by.0))
     }
 
-    /// Board exchanged: the board joins into its row that of the board `from`, which
+    /// Board, exchanged: the board joins into its row that of the board `from`, which
     /// tested it. Any bytes of the length [`packed_length`] are a row.
     /// Refusals: 10, 9, 13.
     ///
@@ -311,7 +314,7 @@ impl Board {
         accepted(raw::board_exchanged(wiring, n, own, self.line_mut(), from.0, packed))
     }
 
-    /// Board round closed: closes the round in the board's line.
+    /// Board, round closed: closes the round in the board's line.
     ///
     /// ```
     /// use vcube::{Board, Station, Wiring};
