@@ -135,12 +135,19 @@ function packed(row) {
     return bytes.map((byte) => byte.toString(16).padStart(2, '0')).join(' ');
 }
 
-/// The messages of an entry: from whom, to whom, what, and of a row whom it suspects and its bytes. A row is that of the plant saved before the
-/// entry; where there is none, it is left out.
-function sent([board, tested, outcome], closes, saved) {
+/// Whether a board is live after these lines of the run.
+const is_live_after = (lines, asked) =>
+    lines.every((line) => {
+        const [board, tested, outcome, status] = line.split(' ');
+        return (board !== asked || status === '0') && (tested !== asked || outcome !== '5');
+    });
+
+/// The messages of an entry: from whom, to whom, what, and of a row whom it suspects and its bytes. A reply brings the row of the plant saved before
+/// the entry, an exchange that of the plant saved after it; where there is none, it is left out.
+function sent([board, tested, outcome], is_late, closes, before, after) {
     const ends = [board, tested];
     const back = [tested, board];
-    const with_row = ([from, to], what) => {
+    const with_row = ([from, to], what, saved) => {
         if (!saved) return [from, to, what];
         const row = [...line_of(saved, Number(from)).subarray(HEAD)];
         const others = row.flatMap((byte, other) => (byte === 1 ? [other] : []));
@@ -148,11 +155,11 @@ function sent([board, tested, outcome], closes, saved) {
     };
     const by_outcome = {
         0: [],
-        1: [[...ends, 'test'], with_row(back, 'reply'), with_row(ends, 'exchange')],
-        2: [[...ends, 'test'], with_row(back, 'reply')],
-        3: [[...ends, 'test']],
+        1: [[...ends, 'test'], with_row(back, 'reply', before), with_row(ends, 'exchange', after)],
+        2: [[...ends, 'test'], with_row(back, 'reply', before)],
+        3: [[...ends, 'test'], ...(is_late ? [[...back, 'reply, late: thrown away']] : [])],
         4: [],
-        5: [[...ends, 'test'], with_row(back, 'reply'), [...ends, 'told']],
+        5: [[...ends, 'test'], with_row(back, 'reply', before), [...ends, 'told']],
     };
     return [...by_outcome[outcome], ...(closes ? [['all', 'round closed']] : [])];
 }
@@ -164,11 +171,13 @@ export function moments(simulator, n, entries, is_ring) {
     return Array.from({ length: entries.length + 1 }, (_, k) => {
         const input = input_of(n, entries.slice(0, k));
         const { rounds, tests } = simulator.run(input, is_ring);
+        const saved = is_ring ? undefined : simulator.saved(input);
         const moment = { rounds: String(rounds), tests: String(tests), at: `${k} of ${entries.length}`, entry: '', arrows: [], messages: [] };
         if (k > 0) {
             const [board, tested, outcome] = all.lines[k - 1].split(' ');
             moment.entry = tested === '-' ? `Board ${board}: ${OUTCOMES[outcome]}.` : `Board ${board} tests ${tested}: ${OUTCOMES[outcome]}.`;
-            moment.messages = sent(all.lines[k - 1].split(' '), rounds > before.rounds, before.saved);
+            const is_late = entries[k - 1].startsWith('L') && is_live_after(all.lines.slice(0, k - 1), tested);
+            moment.messages = sent([board, tested, outcome], is_late, rounds > before.rounds, before.saved, saved);
             if (entries[k - 1].startsWith('L')) moment.entry += ' (A turn, reply late.)';
             if (tested !== '-') {
                 const [name, is_back, is_both] = ARROWS[outcome];
@@ -176,7 +185,6 @@ export function moments(simulator, n, entries, is_ring) {
                 moment.arrows = [[name, ...(is_back ? ends.reverse() : ends), is_both]];
             }
         }
-        const saved = is_ring ? undefined : simulator.saved(input);
         before = { rounds, saved };
         if (is_ring) return moment;
         return { ...moment, ...told(saved), granted: granted(saved, last_of(entries.slice(0, k))) };

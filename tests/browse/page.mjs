@@ -51,7 +51,7 @@ const reader = `
         const texts = [...document.querySelectorAll('#messages li')].filter((item) => item.checkVisibility()).map((item) => item.textContent);
         if (texts.length > 0 === document.getElementById('no-messages').checkVisibility()) texts.push('messages, and that there are none');
         const board = '([0-9]+)(?: [(].*?[)])?';
-        const form = new RegExp('^' + board + ' to ' + board + ': ([a-z]+)(?:, suspects (.*) [(]bytes? ([0-9a-f ]+)[)])?$');
+        const form = new RegExp('^' + board + ' to ' + board + ': ([a-z]+|reply, late: thrown away)(?:, suspects (.*) [(]bytes? ([0-9a-f ]+)[)])?$');
         return texts.map((text) => {
             if (text === 'To all: round closed') return ['all', 'round closed'];
             return form.exec(text)?.slice(1).filter((part) => part !== undefined) ?? text;
@@ -191,13 +191,18 @@ async function slots(browser) {
     same(red, [['5', '7, above']], 'tests above the slot');
 }
 
-/// Rows on the cable with names, and on the ring, of which the simulator saves no plant: 0 finds 1 dead, and then exchanges with 2.
+/// Rows on the cable with names, and on the ring, of which the simulator saves no plant: 0 finds 1 dead, and then exchanges with 2. 3 hears of it
+/// from 0, and sends the row that it joined that into. The reply of 3 to 2 is late.
 async function sends(browser) {
-    await open(browser, link(4, ['C 1', 'T 0', 'T 0'], 3, 'ring', '&name2=the%20long%20(press)'));
+    await open(browser, link(4, ['C 1', 'T 0', 'T 0', 'T 3', 'L 2'], 3, 'ring', '&name2=the%20long%20(press)'));
     const rows = [['0', '2', 'test'], ['2', '0', 'reply', 'nobody', '00'], ['0', '2', 'exchange', '1', '02']];
     same((await browser.value('said()')).messages, rows, 'messages on the ring');
     const text = await browser.value(`document.querySelector('#messages li').textContent`);
     same(text, '0 to 2 (the long (press)): test', 'a message with a name');
+    const joined = [['3', '0', 'test'], ['0', '3', 'reply', '1', '02'], ['3', '0', 'exchange', '1', '02']];
+    same((await browser.value('move_to(4)')).messages, joined, 'messages of an exchange that brings a joined row');
+    same((await browser.value('move_to(5)')).messages, [['2', '3', 'test'], ['3', '2', 'reply, late: thrown away']], 'messages of a late turn');
+    await browser.value('move_to(3)');
     same((await browser.value(`press('back')`)).messages, [['0', '1', 'test']], 'messages without a reply');
     same((await browser.value(`press('first')`)).messages, [], 'messages before the first entry');
 }
