@@ -441,7 +441,7 @@ uint8_t vcube_read_input(const uint8_t *input, size_t input_length, uint8_t *sch
  * itself), 13 (the packed row has another length). From a valid line no call leaves one that gets 25 or 3 in the next, with the same wiring, n and
  * board; nor does vcube_board_fresh, if it is not refused (Rule Line kept). */
 
-/* Board, fresh: the line becomes a line of a fresh table. Once, when the plant is commissioned: a board that left would be live again.
+/* Board, fresh: the line becomes a line of a fresh table. Not after a reset in service: a board that left would be live again.
  * Errors: 24, 1, 9, 25. */
 uint8_t vcube_board_fresh(size_t wiring, size_t n, size_t board, uint8_t *line, size_t line_length);
 

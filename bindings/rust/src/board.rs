@@ -118,8 +118,9 @@ pub struct Board {
 }
 
 impl Board {
-    /// Board, fresh: board `own` of a plant of n, with a line of a fresh table. Once, when
-    /// the plant is commissioned: a board that left would be live again. Refusals: 1, 9.
+    /// Board, fresh: board `own` of a plant of n, with a line of a fresh table. Not after a
+    /// reset in service: a board that left would be live again.
+    /// Refusals: 1, 9.
     ///
     /// ```
     /// use vcube::{Board, Refusal, Station, Wiring};
