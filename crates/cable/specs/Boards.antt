@@ -131,8 +131,8 @@ BoardsDoTheRun =
 unfoldable pub table_of : ℕ → Lines → List ℕ
 table_of n b = list_of (λ p. slice_index (b (p / stride n)) (p % stride n)) (table_length n)
 
--- Rule Boards make a table: where the calls of each board let its line through, and the round is not over, refusals 24 and 1 to 4 let this table through, and the boards
--- hold what it has
+-- Rule Boards make a table: where the calls of each board let its line through, and the round is not over, refusals 24 and 1 to 4 let this table
+-- through, and the boards hold what it has
 abbrev pub BoardsMakeATable : Type 0
 BoardsMakeATable =
     (w n : ℕ) (b : Lines) → 0 < n → ((k : ℕ) → k < n → line_check w n k (b k) ≡ Ok tt) → all_finished n b ≡ false
