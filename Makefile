@@ -248,7 +248,8 @@ test-c: archive
 test-rust-tests:
 	@$(call step,cargo test --workspace $(linking:%=--exclude=%) --offline --locked --quiet)
 test-linked-tests: archive
-	@$(call step,cargo test $(linking:%=--package=%) --offline --locked --quiet)
+	@$(call step,cargo test $(linking:%=--package=%) --offline --locked --quiet &&
+	    cargo check --package=vcube --lib --no-default-features --offline --locked --quiet)
 test-clippy: archive
 	@$(call of_cargo,clippy,cargo clippy --workspace --all-targets --offline --locked --quiet -- -D warnings)
 test-kept-page: page
