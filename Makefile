@@ -118,7 +118,8 @@ target/wasm/vcube.wasm: target/staticlib/libvcube.a
 	    "$$copy/crates/vcube/out/vcube.wasm" -o $@
 
 # MODULE: C of a module, which vcube_portable_module.h includes. wasm2c's ways to the memory get other names, as that header has its own. The
-# constants go up to the heap: the module leaves out the zeros at their end.
+# constants go up to the heap: the module leaves out the zeros at their end. What the module exports only that file calls: a compiler that knows so
+# leaves out halves of numbers that are always 0.
 define module_in_c
 $(call needs,wasm2c,wabt)
 wasm2c --no-debug-names -n vcube_module $1 -o $(@D)/vcube_module.c
@@ -126,6 +127,7 @@ heap=$$(sed -nE 's/^  instance->w2c___heap_base = ([0-9]+)ull;$$/\1/p' $(@D)/vcu
 sed -Ei "s/^(#define|static inline void) (LOAD_DATA|DEFINE_LOAD|DEFINE_STORE|memory_fill|memory_copy)\(/\1 wasm2c_\2(/
     s/^static const u8 data_segment_data_w2c_d0\[\]/static const u8 vcube_constants[$$((heap - 65536))]/
     s/data_segment_data_w2c_d0/vcube_constants/" $(@D)/vcube_module.c
+sed -Ei 's/^[a-z0-9_]+\*? Z_vcube_module/static &/' $(@D)/vcube_module.[ch]
 cp $(filter %.h,$^) $(@F:%=bindings/portable/%) $(@D)/
 endef
 
@@ -246,7 +248,8 @@ test-c: archive
 test-rust-tests:
 	@$(call step,cargo test --workspace $(linking:%=--exclude=%) --offline --locked --quiet)
 test-linked-tests: archive
-	@$(call step,cargo test $(linking:%=--package=%) --offline --locked --quiet)
+	@$(call step,cargo test $(linking:%=--package=%) --offline --locked --quiet &&
+	    cargo check --package=vcube --lib --no-default-features --offline --locked --quiet)
 test-clippy: archive
 	@$(call of_cargo,clippy,cargo clippy --workspace --all-targets --offline --locked --quiet -- -D warnings)
 test-kept-page: page

@@ -48,25 +48,32 @@ static void make_calls(void)
     }
 }
 
-static void make_none(void) {}
+/* The stack on which the calls are made to see how much they take: what is no more as it was, from where they begin. */
+static uint8_t stack[65536];
+static size_t taken;
 
-/* How much of a stack a function takes: what is no more as it was. */
-static size_t stack_of(void (*function)(void))
+static void make_measured(void)
 {
-    static uint8_t stack[65536];
-    static ucontext_t here, there;
+    volatile uint8_t here = 0;
     size_t untouched = 0;
+
+    make_calls();
+    while (stack[untouched] == 0xA5)
+        untouched++;
+    taken = (size_t)((uintptr_t)&here - (uintptr_t)stack) - untouched;
+}
+
+static void measure(void)
+{
+    static ucontext_t here, there;
 
     memset(stack, 0xA5, sizeof stack);
     getcontext(&there);
     there.uc_stack.ss_sp = stack;
     there.uc_stack.ss_size = sizeof stack;
     there.uc_link = &here;
-    makecontext(&there, function, 0);
+    makecontext(&there, make_measured, 0);
     swapcontext(&here, &there);
-    while (untouched < sizeof stack && stack[untouched] == 0xA5)
-        untouched++;
-    return sizeof stack - untouched;
 }
 
 int main(int count, char **words)
@@ -77,9 +84,11 @@ int main(int count, char **words)
     n = strtoul(words[2], NULL, 10);
     calls = words[4];
     begin(strtoul(words[3], NULL, 10));
-    if (count == 5)
+    if (count == 5) {
         make_calls();
-    else
-        printf("%zu\n", stack_of(make_calls) - stack_of(make_none));
+    } else {
+        measure();
+        printf("%zu\n", taken);
+    }
     return number;
 }

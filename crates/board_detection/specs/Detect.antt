@@ -31,7 +31,8 @@ pub record BoardsBegin (w n : ℕ) (b : Lines) : Type 0 where
   pub two_live : 2 ≤ live_boards n b
   pub accurate : (i j : ℕ) → i < n → j < n → is_live (b i) ≡ true → is_live (b j) ≡ true → suspicion_of (b i) j ≡ 0
 
--- and of an entry: it is a turn that its board's calls do not refuse. It is of kind 2, late, only if the board that call board next names is not live
+-- and of an entry: it is a turn that its board's calls do not refuse. It is of kind 2, late, only if the board that call Board, next names is not
+-- live
 pub record TurnInTime (w n : ℕ) (b : Lines) (e : Entry) : Type 0 where
   pub kind : (e.kind ≡ kind_turn) ⊎ (e.kind ≡ kind_late)
   pub taken : turn_check w n e.station (b e.station) ≡ Ok tt
@@ -93,7 +94,7 @@ abbrev pub BoardsDetect : (ℕ → ℕ → ℕ) → Type 0
 BoardsDetect rounds =
     (w n : ℕ) (b : Lines) (es : List Entry) → BoardsBegin w n b → TurnsInTime w n b es → BoardsKnow (rounds w n) w n b es
 
--- Rule Conditions are met: boards that have called board fresh meet what is supposed of the boards, whatever their lines were before
+-- Rule Conditions are met: boards that have called Board, fresh meet what is supposed of the boards, whatever their lines were before
 abbrev pub FreshBoardsBegin : Type 0
 FreshBoardsBegin =
     (w n : ℕ) (b : Lines) → ((i : ℕ) → i < n → place_check w n i (length (b i)) ≡ Ok tt) → 0 < n → BoardsBegin w n (λ i. fresh_after w n i (b i))

@@ -25,7 +25,7 @@ Lines = ℕ → List ℕ
 abbrev pub row_from : ℕ → ℕ → ℕ → List ℕ → List ℕ
 row_from w n k l = row_sent w n k l (replicate (packed_length n) 0)
 
--- Rule Board's turn: whom the board tests, as its call board next answers; 255 for nobody
+-- Rule Board's turn: whom the board tests, as its call Board, next answers; 255 for nobody
 abbrev pub named : Result (Option ℕ) Refusal → ℕ
 named (Ok (Some j)) = j
 named (Ok None) = no_station
@@ -68,7 +68,7 @@ after_turn w n b kind i k =
     if k == i then mine
     else (if k == tested_by w n b i then after_sending w n i k (b k) mine (tester_answer w n i (b i) reply) else b k)
 
--- a board that crashes is silent from then on
+-- Rule Own crash: a board that crashes is silent from then on
 unfoldable pub after_crash : Lines → ℕ → Lines
 after_crash b i k = if k == i then set (b k) status_column status_crashed else b k
 
@@ -131,8 +131,8 @@ BoardsDoTheRun =
 unfoldable pub table_of : ℕ → Lines → List ℕ
 table_of n b = list_of (λ p. slice_index (b (p / stride n)) (p % stride n)) (table_length n)
 
--- where the calls of each board let its line through, and the round is not over, refusals 24 and 1 to 4 let this table through, and the boards
--- hold what it has
+-- Rule Boards make a table: where the calls of each board let its line through, and the round is not over, refusals 24 and 1 to 4 let this table
+-- through, and the boards hold what it has
 abbrev pub BoardsMakeATable : Type 0
 BoardsMakeATable =
     (w n : ℕ) (b : Lines) → 0 < n → ((k : ℕ) → k < n → line_check w n k (b k) ≡ Ok tt) → all_finished n b ≡ false

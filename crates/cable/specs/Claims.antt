@@ -68,6 +68,6 @@ RowsTravel = (w n : ℕ) (t : List ℕ) (i : ℕ) → numbered_table_refusal w n
 abbrev pub LinesOfTables : Type 0
 LinesOfTables = (w n : ℕ) (t : List ℕ) (i : ℕ) → numbered_table_refusal w n t ≡ 0 → i < n → line_check w n i (line n t i) ≡ Ok tt
 
--- the line that call board fresh leaves, where it is not refused, is that line of the fresh table
+-- Rule Fresh boards: the line that call Board, fresh leaves, where it is not refused, is that line of the fresh table
 abbrev pub FreshBoards : Type 0
 FreshBoards = (w n i : ℕ) (l : List ℕ) → place_check w n i (length l) ≡ Ok tt → fresh_after w n i l ≡ line n (fresh_table n) i

@@ -1,4 +1,4 @@
--- On a cable that loses nothing every entry gets in force: the happenings of one entry, and of a list.
+-- Every entry can get in force: the happenings of one entry, and of a list.
 -- Assumes nothing.
 use mathlib.Core.Path.{◌≡◌, refl, sym, ap, subst, ◌∙◌}
 use mathlib.Core.Logic.{◌≢◌}

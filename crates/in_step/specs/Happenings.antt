@@ -33,36 +33,36 @@ turn_ended w n y i mine (Ok outcome) =
     let x : End = record { turn = suc b.in_force; from = i; outcome = outcome; packed = row_from w n i b.line } in
     with_board (record y { ends = x ∷ y.ends }) i (record b { aside = Some mine })
 
--- Rule Board's turn: on a copy of its line board i makes call board replied, or board not replied. It does so once: not again until the next entry is
--- in force at it. That it was granted the turn is not asked: the master takes one end of a turn only
+-- Rule Aside: on a copy of its line board i makes call Board, replied, or Board, not replied. It does so once: not again until the next entry is in
+-- force at it. That it was granted the turn is not asked: the master takes one end of a turn only
 unfoldable pub turn_made : ℕ → ℕ → System → ℕ → Option (List ℕ) → System
 turn_made w n y i reply =
     let l = (y.boards i).line in
     if is_none (y.boards i).aside then turn_ended w n y i (tester_after w n i l reply) (tester_answer w n i l reply) else y
 
--- a reply is taken if it is one to the test of this turn, from the board that call board next names. Any other is thrown away
+-- Rule Aside: a reply is taken if it is one to the test of this turn, from the board that call Board, next names. Any other is thrown away
 unfoldable pub reply_heard : ℕ → ℕ → System → ℕ → Option Reply → System
 reply_heard w n y i None = y
 reply_heard w n y i (Some r) =
     let b = y.boards i in
     if r.turn == suc b.in_force && r.from == named (next_answer w n i b.line) then turn_made w n y i (Some r.packed) else y
 
--- the master makes an entry, if a run would take it
+-- Rule Entered: the master makes an entry, if a run would take it
 unfoldable pub entry_made : ℕ → ℕ → State → System → Entry → System
 entry_made w n s y e =
     if entry_refusal n (after_all w n s y.entries) e == 0 then record y { entries = y.entries ++ (e ∷ []) } else y
 
--- Rule Kinds: it makes a turn one whose reply came late, if the tester got none though the board tested is live in the master's table t
+-- Rules Entered and Kinds: it makes a turn one whose reply came late, if the tester got none though the board tested is live in the master's table t
 abbrev pub entry_by : ℕ → ℕ → List ℕ → End → Entry
 entry_by w n t x = entry_of (if x.outcome == outcome_no_reply && live n t (turn_tested w n t x.from) then kind_late else kind_turn) x.from
 
--- it takes an end of the turn that follows its entries, and no other
+-- Rule Entered: it takes an end of the turn that follows its entries, and no other
 unfoldable pub end_heard : ℕ → ℕ → State → System → Option End → System
 end_heard w n s y None = y
 end_heard w n s y (Some x) =
     if x.turn == suc (length y.entries) then entry_made w n s y (entry_by w n (after_all w n s y.entries).table x) else y
 
--- the entry of the note is in force at board k, with the line that it made of it, closed by call board round closed if the entry closed the round;
+-- the entry of the note is in force at board k, with the line that it made of it, closed by call Board, round closed if the entry closed the round;
 -- and the turn that the board made, if any, is over. If it could make no line, nothing is done
 unfoldable pub put_in_force : ℕ → ℕ → System → ℕ → Note → Option (List ℕ) → System
 put_in_force w n y k note None = y
@@ -70,7 +70,7 @@ put_in_force w n y k note (Some l) =
     let b = y.boards k in
     with_board y k (record { in_force = suc b.in_force; line = if note.closed then closed_after w n k l else l; aside = None })
 
--- the note of entry m, from 0, is taken if that is the board's next entry. Any other note does nothing
+-- the note of the entry at place m of the list, where m entries stand before it, is taken if m are in force at the board. Any other does nothing
 unfoldable pub note_heard : ℕ → ℕ → State → System → ℕ → ℕ → Option Entry → Option End → System
 note_heard w n s y k m None heard = y
 note_heard w n s y k m (Some e) heard =
@@ -90,7 +90,7 @@ pub data Happening : Type 0 where
   end_comes : ℕ → Happening
   -- the master holds board i for crashed
   crash_found : ℕ → Happening
-  -- the note of an entry comes to board k: the board, the number of the entry, from 0, and which of the ends that were sent k has heard
+  -- the note of an entry comes to board k: the board, how many entries stand before it, and which of the ends that were sent k has heard
   note_comes : ℕ → ℕ → ℕ → Happening
 
 abbrev pub after_happening : ℕ → ℕ → State → System → Happening → System

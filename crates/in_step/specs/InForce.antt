@@ -1,4 +1,4 @@
--- That nothing stands in the way: on a cable that loses nothing, boards put every entry in force.
+-- That nothing stands in the way: for any entries that a master may make there are happenings after which all are in force at all boards.
 -- Assumes nothing.
 use Rattle.std.specs.Prelude.{◌≡◌, ℕ, ◌<◌, true, List, [], ◌∷◌, length, ⊤}
 use Rattle.table.specs.Table.{live}
