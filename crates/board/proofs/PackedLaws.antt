@@ -46,6 +46,20 @@ bits-at f low (suc m) k (suc j) h =
     let e : f (suc k + j) ≡ f (k + suc j) = ap f (omega arith) in
     bit_at-suc (f k + 2 * bits f (suc k) m) j ∙ (ap (λ (x : ℕ). bit_at x j) half ∙ (bits-at f low m (suc k) j (omega arith) ∙ e))
 
+bits-none : (f : ℕ → ℕ) (k m : ℕ) → ((j : ℕ) → j < m → f (k + j) ≡ 0) → bits f k m ≡ 0
+unfolding bits
+bits-none f k zero none = refl
+bits-none f k (suc m) none =
+    let a : f (k + 0) ≡ 0 = none 0 (omega arith) in
+    let e : f (k + 0) ≡ f k = ap f (omega arith) in
+    let rest : bits f (suc k) m ≡ 0 = bits-none f (suc k) m (λ j h. let g : suc k + j ≡ k + suc j = omega arith in ap f g ∙ none (suc j) (omega arith)) in
+    omega (arith, a, e, rest)
+
+-- eight boards of which none is suspected
+pub nobody-packed : (r : List ℕ) (b : ℕ) → ((j : ℕ) → j < 8 → get_or r (8 * b + j) 0 ≡ 0) → 0 ≡ packed_byte r b
+unfolding packed_byte
+nobody-packed r b none = sym (bits-none (suspicion r) (8 * b) 8 (λ j h. ap (λ (x : ℕ). bit (eqb x 1)) (none j h)))
+
 pub bits-below : (f : ℕ → ℕ) → ((k : ℕ) → f k ≤ 1) → (m k : ℕ) → bits f k m < 2 ^ m
 unfolding bits
 bits-below f low zero k = omega arith

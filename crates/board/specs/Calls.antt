@@ -15,7 +15,7 @@ use Rattle.table.specs.Fresh.{fresh_byte}
 use Rattle.board.specs.Board.{suspicion_of, tested, next_station, turn_of, outcome, left_told, joined, round_closed}
 use Rattle.board.specs.Packed.{packed_length, pack, heard}
 
--- all line rules, of the line of board i
+-- Rule Own line, valid: all line rules, of the line of board i
 unfoldable pub line_rules : ℕ → ℕ → ℕ → List ℕ → Bool
 line_rules w n i l = head_rules_by w n i (slice_index l) && row_rule_by n i (suspicion_of l)
 

@@ -1,4 +1,4 @@
--- That no call leaves a line that the next call refuses, whatever comes over the cable.
+-- That from a valid line no call leaves one that the next call refuses, whatever comes over the cable.
 -- Assumes nothing.
 use Rattle.std.specs.Prelude.{◌≡◌, ℕ, List, length, Ok}
 use Rattle.board.specs.Calls.{place_check, line_check, fresh_after, replied_after, silent_after, told_after, exchanged_after, closed_after}

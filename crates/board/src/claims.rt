@@ -8,7 +8,7 @@ pub fn any_bytes_are_a_row()
     ensures { AnyBytesAreARow }
 {}
 
-// No call leaves a line that the next call refuses, whatever comes over the cable.
+// From a valid line no call leaves one that the next call refuses, whatever comes over the cable.
 pub fn calls_keep_the_rules()
     ensures { CallsKeepTheRules }
 {}

@@ -16,11 +16,14 @@ pub(crate) fn pack(row: &[u8], packed: &mut [u8])
     }
 }
 
-// Byte b of it, from its highest bit down.
+// Byte b of it, from its highest bit down. Eight boards of which none is suspected cost one word.
 fn packed_byte(row: &[u8], b: usize) -> u8
     requires { b < 8 }
     ensures { result ≡ packed_byte row.now b }
 {
+    if words::eight_zeros(row, 8 * b) {
+        return 0;
+    }
     let mut byte: u8 = 0;
     let mut k: usize = 8;
     while 0 < k {

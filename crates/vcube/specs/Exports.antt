@@ -64,7 +64,7 @@ pair_of (Ok (Some pair)) = pair_out 0 pair.by.0 pair.of.0
 pair_of (Ok None) = pair_out 0 no_station no_station
 pair_of (Err refusal) = pair_out (number_of refusal) 0 0
 
--- Board next: the station that the next turn tests; 0 where the call is refused
+-- Board, next: the station that the next turn tests; 0 where the call is refused
 abbrev pub station_number : Result (Option ℕ) Refusal → ℕ
 station_number (Ok (Some j)) = j
 station_number (Ok None) = no_station

@@ -14,7 +14,7 @@ use lists::refusal::{Refusal, number_of, parts};
 use station::outcome::Outcome;
 use table::Station;
 
-// Board fresh: the line becomes a line of a fresh table.
+// Board, fresh: the line becomes a line of a fresh table.
 #[tactic(auto, using(crate::proofs::NarrowBoard::place_narrow, crate::proofs::NarrowBoard::fresh_narrow))]
 #[unsafe(no_mangle)]
 pub extern "C" fn vcube_board_fresh(wiring: usize, n: usize, own: usize, line: &mut [u8]) -> u8
@@ -24,7 +24,7 @@ pub extern "C" fn vcube_board_fresh(wiring: usize, n: usize, own: usize, line: &
     number_of(calls::fresh(wiring, n, Station(byte_of(own)), line))
 }
 
-// Board next: the board that the next turn tests into tested; 255 where there is none, 0 where it is refused.
+// Board, next: the board that the next turn tests into tested; 255 where there is none, 0 where it is refused.
 #[tactic(auto, using(crate::proofs::NarrowBoard::next_narrow))]
 #[unsafe(no_mangle)]
 pub extern "C" fn vcube_board_next(
@@ -46,7 +46,7 @@ pub extern "C" fn vcube_board_next(
     number
 }
 
-// Board row: the board's row, packed, into a buffer of just its length.
+// Board, row: the board's row, packed, into a buffer of just its length.
 #[tactic(auto, using(crate::proofs::NarrowBoard::row_check_narrow, crate::proofs::NarrowBoard::row_sent_narrow))]
 #[unsafe(no_mangle)]
 pub extern "C" fn vcube_board_row(
@@ -63,7 +63,7 @@ pub extern "C" fn vcube_board_row(
     number_of(calls::row(wiring, n, Station(byte_of(own)), line, packed))
 }
 
-// Board replied: the turn, with the reply of the board that it tests; its outcome into outcome, 0 where it is refused.
+// Board, replied: the turn, with the reply of the board that it tests; its outcome into outcome, 0 where it is refused.
 #[tactic(auto, using(crate::proofs::NarrowBoard::replied_narrow, crate::proofs::NarrowBoard::replied_after_narrow))]
 #[unsafe(no_mangle)]
 pub extern "C" fn vcube_board_replied(
@@ -86,7 +86,7 @@ pub extern "C" fn vcube_board_replied(
     )
 }
 
-// Board not replied: the turn without a reply; its outcome into outcome, 0 where it is refused.
+// Board, not replied: the turn without a reply; its outcome into outcome, 0 where it is refused.
 #[tactic(auto, using(crate::proofs::NarrowBoard::silent_narrow, crate::proofs::NarrowBoard::silent_after_narrow))]
 #[unsafe(no_mangle)]
 pub extern "C" fn vcube_board_not_replied(
@@ -107,7 +107,7 @@ pub extern "C" fn vcube_board_not_replied(
     )
 }
 
-// Board told: the board leaves, told by another.
+// Board, told: the board leaves, told by another.
 #[tactic(auto, using(crate::proofs::NarrowBoard::sent_narrow, crate::proofs::NarrowBoard::told_narrow))]
 #[unsafe(no_mangle)]
 pub extern "C" fn vcube_board_told(
@@ -124,7 +124,7 @@ pub extern "C" fn vcube_board_told(
     number_of(calls::told(wiring, n, Station(byte_of(own)), line, by))
 }
 
-// Board exchanged: the board joins the row that another sent into its own.
+// Board, exchanged: the board joins the row that another sent into its own.
 #[tactic(auto, using(crate::proofs::NarrowBoard::exchanged_narrow, crate::proofs::NarrowBoard::exchanged_after_narrow))]
 #[unsafe(no_mangle)]
 pub extern "C" fn vcube_board_exchanged(
@@ -143,7 +143,7 @@ pub extern "C" fn vcube_board_exchanged(
     number_of(calls::exchanged(wiring, n, Station(byte_of(own)), line, from, packed))
 }
 
-// Board round closed: the round closes in the board's line.
+// Board, round closed: the round closes in the board's line.
 #[tactic(auto, using(crate::proofs::NarrowBoard::line_narrow, crate::proofs::NarrowBoard::closed_narrow))]
 #[unsafe(no_mangle)]
 pub extern "C" fn vcube_board_round_closed(

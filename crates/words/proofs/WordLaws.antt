@@ -8,7 +8,7 @@ use Prim.Native.Nat.{ℕ, zero, suc, ◌+◌, ◌-◌, ◌*◌, ◌/◌, ◌%◌
 use native.Mathlib.Decide.{dec_lt}
 use native.Mathlib.Nat.{add-zero, add-suc, suc-mul}
 use native.Mathlib.Omega.{arith}
-use borrow.Author.Tests.{ne_eqb}
+use borrow.Author.Tests.{ne_eqb, eqb-true, le-leb, lt-leb}
 use lib.Arith.{bin_ind}
 use lib.Bits.{bit_and, bit_or, and_step, or_step, and_zero_l, or_zero_l, and_block, or_add_and, and_le_r}
 use lib.Dec.{eqb, leb}
@@ -19,7 +19,7 @@ use mir.Val.{Fits}
 use Rattle.std.specs.Int.{from_le_bytes}
 use Rattle.std.specs.Simd.{first_chunks}
 use Rattle.lists.specs.Search.{every}
-use Rattle.words.specs.Words.{is_bit_at, are_bits}
+use Rattle.words.specs.Words.{is_bit_at, are_bits, eight_zeros}
 use Rattle.lists.proofs.SearchLaws.{both, every-suc, every-at, every-all}
 
 -- laws of `every`
@@ -212,3 +212,26 @@ last-done t b c k all w typed l e n h g before r =
     ap (λ (x : ℕ). eqb x 0) (and-or all w 0xFEFE_FEFE_FEFE_FEFE) ∙ neither (bit_and all 0xFEFE_FEFE_FEFE_FEFE) (bit_and w 0xFEFE_FEFE_FEFE_FEFE)
     ∙ ap₂ ◌&&◌ before (ap (λ (x : ℕ). eqb (bit_and x 0xFEFE_FEFE_FEFE_FEFE) 0) v ∙ bits-of (from t a) 8 8 (omega arith) (λ j. (typed (a + j)).fits))
     ∙ every-joined (is_bit_at t) (k * 8) a 8 (omega arith) (omega arith) ∙ ap (every (is_bit_at t)) z
+
+-- a word is 0 just if all its bytes are
+zero-of : (f : ℕ → ℕ) (n : ℕ) → eqb (digits f n) 0 ≡ every (λ k. eqb (f k) 0) n
+unfolding every
+zero-of f zero = refl
+zero-of f (suc n) =
+    let rest = digits (λ j. f (suc j)) n in
+    let w : f 0 + 256 * rest ≡ rest * 256 + f 0 = omega arith in
+    ap (λ (x : ℕ). eqb x 0) w ∙ both_zero rest (f 0) ∙ ap (λ (b : Bool). eqb (f 0) 0 && b) (zero-of (λ j. f (suc j)) n)
+    ∙ sym (every-head (λ k. eqb (f k) 0) n)
+
+pub zeros-read : (t : List ℕ) (p w : ℕ) → p + 8 ≤ length t → w ≡ from_le_bytes w64 (take 8 (drop p t)) → eqb w 0 ≡ eight_zeros t p
+unfolding eight_zeros
+zeros-read t p w l e = rw (le-leb (p + 8) (length t) l, read_8 t p w e) (zero-of (from t p) 8)
+
+pub zeros-beyond : (t : List ℕ) (p : ℕ) → length t < p + 8 → false ≡ eight_zeros t p
+unfolding eight_zeros
+zeros-beyond t p l = rw (lt-leb (p + 8) (length t) l) refl
+
+-- so each is
+pub zeros-at : (t : List ℕ) (p j : ℕ) → eight_zeros t p ≡ true → j < 8 → get_or t (p + j) 0 ≡ 0
+unfolding eight_zeros
+zeros-at t p j e h = eqb-true _ _ (every-at (λ k. eqb (get_or t (p + k) 0) 0) 8 j (both _ _ e).1 h)

@@ -2,7 +2,7 @@
 #![tactic(auto)]
 
 ghost use Rattle.std.specs.Prelude.{◌≡◌};
-ghost use Rattle.words.specs.Words.{are_bits};
+ghost use Rattle.words.specs.Words.{are_bits, eight_zeros};
 
 // The bits that no byte of 0 or 1 has.
 const HIGH_BITS: u64 = 0xFEFE_FEFE_FEFE_FEFE;
@@ -25,4 +25,17 @@ pub fn are_bits(list: &[u8]) -> bool
     }
     all |= u64::from_le_bytes(*last);
     all & HIGH_BITS == 0
+}
+
+// Whether eight bytes stand from a place on, and all are 0.
+pub fn eight_zeros(list: &[u8], at: usize) -> bool
+    ensures { result ≡ eight_zeros list.now at }
+{
+    if list.len() < at {
+        return false;
+    }
+    let Some(word) = list[at..].first_chunk::<8>() else {
+        return false;
+    };
+    u64::from_le_bytes(*word) == 0
 }

@@ -1,8 +1,12 @@
 -- Each bit finds room.
-use Rattle.std.proofs.Common.{◌≡◌, ◌+◌, ◌*◌, ◌≤◌, refl, arith}
+use Rattle.std.proofs.Common.{◌≡◌, ◌+◌, ◌*◌, ◌≤◌, refl, sym, ◌∙◌, arith}
 use Rattle.board.specs.Packed.{bits, packed_byte}
-use Rattle.board.proofs.PackedLaws.{room, one-more, bit-room}
+use Rattle.words.proofs.WordLaws.{zeros-at}
+use Rattle.board.proofs.PackedLaws.{room, one-more, bit-room, nobody-packed}
 use Rattle.board.proofs.packed.packed_byte.Goals as goal
+
+pub returns-then-eight_zeros : goal.returns-then-eight_zeros
+returns-then-eight_zeros c = nobody-packed _ _ (λ j h. zeros-at _ _ j (sym c.eight_zeros.ensures ∙ c.if-eight_zeros.true) h)
 
 pub loop-k-init : goal.loop-k-init
 unfolding bits
