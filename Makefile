@@ -16,7 +16,7 @@ export VCUBE_LIB_DIR := $(CURDIR)/target/staticlib
 endif
 export CARGO_TARGET_DIR ?= $(CURDIR)/target/cargo
 
-.PHONY: all help archive programs aarch64 wasm portable portable-board page kept-page install install-programs uninstall words layers FORCE
+.PHONY: all help archive programs aarch64 wasm portable portable-board page plant kept-page install install-programs uninstall words layers FORCE
 all: archive programs ## the archive and the three programs
 archive: $(archive) ## target/staticlib/libvcube.a, for C, C++ and Rust on x86-64
 programs: $(programs:%=target/bin/%) ## target/bin/watch, sheet and convert
@@ -25,6 +25,7 @@ wasm: target/wasm/vcube.wasm ## target/wasm/vcube.wasm, a WebAssembly module wit
 portable: target/portable/vcube_portable.c ## target/portable/, C for any C99 compiler: compile vcube_portable.c there
 portable-board: target/portable-board/vcube_portable_board.c ## target/portable-board/, the same of a board's calls on its own line alone
 page: target/vcube.html ## target/vcube.html, the page that shows a plant, live
+plant: target/plant/hub ## target/plant/, the programs of a plant that runs: board, master, and hub, which is the cable
 
 help:
 	@sed -nE 's/^([a-z0-9-]+):.* ## (.*)/make \1: \2/p' Makefile
@@ -46,7 +47,7 @@ made_of = $(if $(is_program),target/bin/$1,$(if $(kind_$1),target/staticlib/lib$
 # The crates that the goals need, each behind those that it uses. rt works on one at a time in a repository, so they wait for each other.
 asked := $(or $(MAKECMDGOALS),all)
 of_programs := programs install-programs test-programs $(programs:%=target/bin/%)
-with_programs := all before-rt-ci test-mutants $(of_programs)
+with_programs := all before-rt-ci test-mutants test-plant $(of_programs)
 roots := $(if $(filter-out $(of_programs),$(asked)),vcube) \
     $(if $(filter $(with_programs),$(filter-out target/bin/%,$(asked))),$(programs)) $(notdir $(filter target/bin/%,$(asked)))
 needed := $(call with_below,$(roots))
@@ -164,6 +165,12 @@ target/vcube.html: target/wasm/vcube.wasm $(wildcard browser/* samples/*)
 kept-page: target/vcube.html ## docs/vcube.html, the page as it is kept: it is just what ./page makes
 	@cp $< docs/vcube.html
 
+# --- A plant that runs, on this computer.
+
+target/plant/hub: $(archive) include/vcube.h $(wildcard bindings/node/*.[ch] bindings/node/host/*)
+	@echo 'building target/plant ..' >&2
+	bindings/node/host/build $(@D) $(archive)
+
 # --- Installing.
 
 version = $(shell sed -n 's/^\#define VCUBE_VERSION "\(.*\)"$$/\1/p' include/vcube.h)
@@ -194,7 +201,7 @@ layers: ## docs/layers.svg, from crates.txt
 
 # --- The tests, in steps. ./test runs them, and says what each is; one by itself is make test-words.
 
-steps := shellcheck layers pages words format rust-format archive mutants compare portable programs page c rust-tests linked-tests clippy \
+steps := shellcheck layers pages words format rust-format archive mutants compare portable programs page c plant rust-tests linked-tests clippy \
     kept-page rt-ci
 .PHONY: list-steps before-rt-ci test $(steps:%=test-%)
 
@@ -245,6 +252,8 @@ test-page: page
 	@$(call step,tests/page)
 test-c: archive
 	@$(call step,bindings/c/run)
+test-plant: archive plant target/bin/watch
+	@$(call step,bindings/node/run && tests/plant/run)
 test-rust-tests:
 	@$(call step,cargo test --workspace $(linking:%=--exclude=%) --offline --locked --quiet)
 test-linked-tests: archive

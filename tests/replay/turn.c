@@ -3,12 +3,12 @@
  * t told, c round closed; nprRx is a turn with an exchange, and - no call. With a further word it prints how much of the stack they take, in bytes.
  * tests/slots counts them. */
 #define _GNU_SOURCE
+#include "stack.h"
 #include "vcube.h"
 
 #include <stdio.h>
 #include <stdlib.h>
 #include <string.h>
-#include <ucontext.h>
 
 static size_t wiring, n;
 static const char *calls;
@@ -48,34 +48,6 @@ static void make_calls(void)
     }
 }
 
-/* The stack on which the calls are made to see how much they take: what is no more as it was, from where they begin. */
-static uint8_t stack[65536];
-static size_t taken;
-
-static void make_measured(void)
-{
-    volatile uint8_t here = 0;
-    size_t untouched = 0;
-
-    make_calls();
-    while (stack[untouched] == 0xA5)
-        untouched++;
-    taken = (size_t)((uintptr_t)&here - (uintptr_t)stack) - untouched;
-}
-
-static void measure(void)
-{
-    static ucontext_t here, there;
-
-    memset(stack, 0xA5, sizeof stack);
-    getcontext(&there);
-    there.uc_stack.ss_sp = stack;
-    there.uc_stack.ss_size = sizeof stack;
-    there.uc_link = &here;
-    makecontext(&there, make_measured, 0);
-    swapcontext(&here, &there);
-}
-
 int main(int count, char **words)
 {
     if (count < 5)
@@ -87,8 +59,7 @@ int main(int count, char **words)
     if (count == 5) {
         make_calls();
     } else {
-        measure();
-        printf("%zu\n", taken);
+        printf("%zu\n", stack_taken(make_calls));
     }
     return number;
 }
