@@ -28,7 +28,8 @@ use Rattle.std.specs.Prelude.{Err}
 use Rattle.lists.specs.declared.refusal.Refusal.{Refusal}
 use Rattle.lists.specs.Refusal.{number_of}
 use Rattle.lists.proofs.RefusalLaws.{number_nonzero}
-use Rattle.granter.specs.Drive.{Stand, stand_at, granted_at, grant_turn, after_grants, ended, ended_after, full_after, stops, grants_made, drive_outcome, outcome_after, drive, Stopped}
+use Rattle.granter.specs.Drive.{Stand, stand_at, granted_at, grant_turn, after_grants, ended, ended_after, full_after, stops, grants_made}
+use Rattle.granter.specs.Drive.{drive_outcome, outcome_after, drive, Stopped}
 use Rattle.granter.proofs.GrantLaws.{Grantable, granted-waits, waits-parts, turn-taken}
 use Rattle.granter.proofs.TurnsLeft.{all_left, all-left-most, turn-left}
 
@@ -135,7 +136,8 @@ pub stopped-full : (w n : ℕ) (p : Stand) (k : ℕ) → Driving w n p k → ful
 unfolding stops
 stopped-full w n p k d full = record { within = omega (arith, d.room); stopped = rw (d.open-still, full); first = d.before }
 
-pub stopped-ended : (w n : ℕ) (p : Stand) (k : ℕ) → Driving w n p k → full_after w n p k ≡ false → ended_after w n p (suc k) ≡ true → Stopped w n p (suc k)
+pub stopped-ended : (w n : ℕ) (p : Stand) (k : ℕ) → Driving w n p k → full_after w n p k ≡ false → ended_after w n p (suc k) ≡ true
+    → Stopped w n p (suc k)
 unfolding stops
 stopped-ended w n p k d fits o = record { within = next-within w n p k d; stopped = rw o; first = next-before w n p k d fits }
 
