@@ -32,9 +32,6 @@ take_turn-held-requires c =
     let next = rw (c.read.ensures.same_size, c.read.ensures.same_bytes, l.loan.size) at c.next_station-i.ensures in
     rw l.loan.size (record { table_obeys = r.0; turn_taken = rw next r.1 })
 
-pub overflow_add-grants : goal.overflow_add-grants
-overflow_add-grants c = omega (arith, grants-small _ c.args.table.now.n _ _ c.loop-wiring.invariant.driving)
-
 pub loop-wiring-smaller : goal.loop-wiring-smaller
 loop-wiring-smaller c = omega (arith, next-within _ _ _ _ c.loop-wiring.invariant.driving)
 
