@@ -69,6 +69,8 @@ count_squares_fit t e =
 pub sum_squared_fits : (t : Totals) → overfull t ≡ false → t.sum * t.sum < 2 ^ 64
 sum_squared_fits t e = let f = overfull_fits t e in omega (arith, mul-le-mul f.sum_fits f.sum_fits)
 
+pub ruleset variance_fits = (count_squares_fit, sum_squared_fits)
+
 fits-overfull : (t : Totals) → TotalsFit t → overfull t ≡ false
 unfolding overfull
 fits-overfull t f = rw (le-ltb _ _ f.count_fits, le-ltb _ _ f.sum_fits, le-ltb _ _ f.squares-fit)
