@@ -88,7 +88,7 @@ module _ (w n : ℕ) (s : State) (last kind : ℕ) (ok : Accepted w n s.table) (
   pub fewer-after : (after w n s entry).rounds ≡ s.rounds → all_left w n (after w n s entry).table < all_left w n s.table
   unfolding after after_round
   fewer-after same =
-      by_bool (round_over n (acted w n s.table entry)) (λ over. absurd (omega (arith, rw over at same))) (λ over. rw over turn-fewer)
+      by_bool (round_over n (acted w n s.table entry)) (λ over. omega (arith, rw over at same)) (λ over. rw over turn-fewer)
 
 -- the next grant
 module _ (w n : ℕ) (p : Stand) (k : ℕ) (d : Driving w n p k) where

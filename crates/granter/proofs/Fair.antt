@@ -27,7 +27,7 @@ passed : (n : ℕ) (t : List ℕ) (i : ℕ) → waits n t i ≡ true → (c : �
 unfolding first_from
 passed n t i w c lo =
     by_cases (dec_lt i (first_from n t c))
-    (λ hi. absurd (true≢false (sym w ∙ least-before (waits n t) (n - c) c i lo hi))) (λ hi. omega arith)
+    (λ hi. cc (least-before (waits n t) (n - c) c i lo hi)) (λ hi. omega arith)
 
 first-low : (n : ℕ) (t : List ℕ) (c : ℕ) → c ≤ first_from n t c
 unfolding first_from

@@ -213,7 +213,7 @@ module _ (len n : ℕ) (g : ℕ → List ℕ) where
   rising-lines [] m h r f one same = pick (dec_lt m n)
     where
       pick : Dec (m < n) → concat_of its_field m ++ [] ≡ concat_of its_field n
-      pick (yes b) = absurd (let o : false ≡ true = one m (omega arith) b in let z : ◌≡◌ {A = ℕ} 0 1 = cc in omega arith)
+      pick (yes b) = cc (one m (omega arith) b)
       pick (no b) = let e : m ≡ n = omega arith in append-nil (concat_of its_field m) ∙ ap (concat_of its_field) e
   rising-lines (c ∷ cs) m h r f one same = by_cases (ℕ_discrete (station_in c) m) (here (rising-lines cs (suc m))) there
     where

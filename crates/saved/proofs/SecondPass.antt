@@ -104,7 +104,7 @@ passed_not e n c all cs t seen p q = sym p.right ∙ by_bool (fits len n c) fitt
         let z : not (get_or seen (station_in c) false) ≡ false = rw f at q in
         let y : get_or seen (station_in c) false ≡ true =
         by_bool (get_or seen (station_in c) false) (λ x. x)
-        (λ x. absurd (let w : true ≡ false = rw x at z in let v : ◌≡◌ {A = ℕ} 0 1 = cc in omega arith)) in
+        (λ x. cc (rw x at z)) in
         let l = ltb-true (station_in c) n (both (eqb (length c) len) _ f).1 in
         rw (every-not (wanted len seen (c ∷ cs)) n (station_in c) l (rw (y, eq-eqb (station_in c) (station_in c) refl)), and-false)
 

@@ -17,7 +17,9 @@ use Rattle.lists.proofs.SearchLaws.{both, every-at, every-all, list_of-length, l
 use Rattle.lists.proofs.SumLaws.{sum_by, sum-stays}
 use Rattle.table.specs.Sizes.{is_size, dimension, distances}
 use Rattle.table.specs.Wiring.{wiring_cube, end_distance}
-use Rattle.table.specs.Table.{head, stride, table_length, line_start, cell, status_column, next_column, finished_column, tests_column, told_by_column, rounds_ago_column, status, status_told, next_distance, finished, tests_made, told_by, told_by_none, not_recorded, rounds_ago, suspects, live}
+use Rattle.table.specs.Table.{head, stride, table_length, line_start, cell, status_column, next_column, finished_column, tests_column}
+use Rattle.table.specs.Table.{told_by_column, rounds_ago_column, status, status_told, next_distance, finished, tests_made, told_by, told_by_none}
+use Rattle.table.specs.Table.{not_recorded, rounds_ago, suspects, live}
 use Rattle.table.specs.Rules.{exit_rule, wired_line_rules}
 use Rattle.table.specs.Properties.{line_at_start, at_start, live_count, no_live_suspicion, none_suspected}
 use Rattle.table.proofs.Accepting.{Accepted, accepted}
@@ -78,7 +80,8 @@ module _ (n N : ℕ) (p : Slow wiring_cube n) (Size : is_size N ≡ true) (low :
   -- bytes 4 and 5 as they are, with 255 and 0 from n on
   abbrev exit_byte : ℕ → ℕ → ℕ
   exit_byte i c =
-      cond (eqb c told_by_column) (cond (ltb i n) (told_by n t i) told_by_none) (cond (eqb c rounds_ago_column) (cond (ltb i n) (rounds_ago n t i) 0) 0)
+      cond (eqb c told_by_column) (cond (ltb i n) (told_by n t i) told_by_none)
+      (cond (eqb c rounds_ago_column) (cond (ltb i n) (rounds_ago n t i) 0) 0)
 
   abbrev byte : ℕ → ℕ → ℕ
   byte i c =
@@ -123,9 +126,17 @@ module _ (n N : ℕ) (p : Slow wiring_cube n) (Size : is_size N ≡ true) (low :
   line_of : (i : ℕ) → i < N → Line wiring_cube N u i
   unfolding end_distance
   line_of i h = record {
-    status_range = rw (status-of i h) (by_bool (ltb i n) (λ q. rw q (accepted-line wiring_cube n t ok i (ltb-true i n q)).status_range) (λ q. rw q (omega arith)));
+    status_range =
+        rw (status-of i h) (by_bool (ltb i n) (λ q. rw q (accepted-line wiring_cube n t ok i (ltb-true i n q)).status_range)
+        (λ q. rw q (omega arith)));
     pass = rw (next_of i h, finished-of i h, tests-of i h)
-        (record { next_low = omega arith; next_high = distances-pos N; finished_range = omega arith; tests_bound = omega arith; finished_next = λ e. absurd (omega arith) });
+        (record {
+          next_low = omega arith;
+          next_high = distances-pos N;
+          finished_range = omega arith;
+          tests_bound = omega arith;
+          finished_next = λ e. omega arith;
+        });
     exits = exits_of i h;
     own = row_of i i h h ∙ by_bool (ltb i n) (λ q. rw q (accepted-line wiring_cube n t ok i (ltb-true i n q)).own) (λ q. rw q);
     range = λ y g. rw (row_of i y h g) (byte_small i y);

@@ -17,7 +17,8 @@ use Rattle.lists.proofs.SearchLaws.{every-all, list_of-length}
 use Rattle.lists.proofs.SumLaws.{sum_by, sum-not, sum-single}
 use Rattle.table.specs.Sizes.{is_size}
 use Rattle.table.specs.Wiring.{wiring_ring}
-use Rattle.table.specs.Table.{head, stride, table_length, cell, status_column, next_column, finished_column, tests_column, told_by_column, told_by_none, rounds_ago_column, status, next_distance, finished, tests_made, suspects, live}
+use Rattle.table.specs.Table.{head, stride, table_length, cell, status_column, next_column, finished_column, tests_column, told_by_column}
+use Rattle.table.specs.Table.{told_by_none, rounds_ago_column, status, next_distance, finished, tests_made, suspects, live}
 use Rattle.table.specs.Rules.{exit_rule, wired_line_rules, not_live}
 use Rattle.table.specs.Properties.{line_at_start, at_start, live_count, no_live_suspicion, none_suspected}
 use Rattle.table.proofs.Accepting.{Accepted}
@@ -236,7 +237,13 @@ module _ (n : ℕ) (size : is_size n ≡ true) (three : 3 ≤ n) where
   line_of i h = record {
     status_range = rw (status-of i h) (by_bool (eqb i 0) (λ e. rw e (omega arith)) (λ e. rw e (omega arith)));
     pass = rw (next_of i h, finished-of i h, tests-of i h)
-        (record { next_low = omega arith; next_high = end-pos wiring_ring n i h; finished_range = omega arith; tests_bound = omega arith; finished_next = λ e. absurd (omega arith) });
+        (record {
+          next_low = omega arith;
+          next_high = end-pos wiring_ring n i h;
+          finished_range = omega arith;
+          tests_bound = omega arith;
+          finished_next = λ e. omega arith;
+        });
     exits = exits_of i h;
     own = row_of i i h h;
     range = λ y g. omega (arith, row_of i y h g);

@@ -3,11 +3,11 @@
 use mathlib.Core.Path.{refl}
 use native.Mathlib.Omega.{arith}
 use Rattle.witness.specs.Witness.{turns_of, boards, calls, FourBoards, ThreeBoards, ring_boards, ring_calls, FourOnRing}
-use Rattle.witness.proofs.Computing.{whole_run}
+use Rattle.witness.proofs.Computing.{whole_list}
 
 -- four boards
 pub witness : FourBoards
-unfolding whole_run boards turns_of calls
+unfolding whole_list boards turns_of calls
 witness = record {
   premises = record { wiring = refl; size = refl; long = refl; start = refl; two_live = omega arith; accurate = refl; one_wiring = refl; no_crash = refl; no_late = refl };
   closed_tests = refl;
@@ -17,7 +17,7 @@ witness = record {
 
 -- three boards
 pub witness-3 : ThreeBoards
-unfolding whole_run turns_of
+unfolding whole_list turns_of
 witness-3 = record {
   premises = record { wiring = refl; size = refl; long = refl; start = refl; two_live = omega arith; accurate = refl; one_wiring = refl; no_crash = refl; no_late = refl };
   closed_tests = refl;
@@ -27,7 +27,7 @@ witness-3 = record {
 
 -- four boards on the ring
 pub witness-ring : FourOnRing
-unfolding whole_run ring_boards turns_of ring_calls
+unfolding whole_list ring_boards turns_of ring_calls
 witness-ring = record {
   premises = record { wiring = refl; size = refl; long = refl; start = refl; two_live = omega arith; accurate = refl; one_wiring = refl; no_crash = refl; no_late = refl };
   closed_tests = refl;
