@@ -74,7 +74,7 @@ struct vcube_times host_times(uint32_t reply)
     times.reply = reply;
     times.repeat = reply / 4 > 0 ? reply / 4 : 1;
     times.grant = 2 * reply + 10;
-    times.probe = reply / 2 > 0 ? reply / 2 : 1;
+    times.probe = reply;
     return times;
 }
 
