@@ -1692,8 +1692,8 @@ static void try_cases(void)
     try_saved();
 }
 
-/* Of 64 boards one dies, and half of the others start again just before the master probes: they ask for their lines, whose frames win the cable.
- * The other half's answers all come within P, and the dead board is entered as crashed. */
+/* Of 64 boards one dies, and 29 others start again just before the master probes: they ask for their lines, whose frames win the cable. The answers
+ * of all others come within P, and the dead board is entered as crashed. */
 static void try_largest(size_t wiring)
 {
     const size_t dead = 5;

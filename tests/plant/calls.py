@@ -37,14 +37,13 @@ WRONG = [
     # A folder that was kept before: the bus master begins anew.
     ('4 --reply 600ms --rounds 9 --brief --keep $TMPDIR/kept >/dev/null && ./plant 4 --reply 600ms --rounds 1 --restart 0.001s --brief '
      '--keep $TMPDIR/kept && rm -r $TMPDIR/kept', 0, re.compile(r'(?s).*\b[1-5] rounds? closed, \d+ entries; live: 0, 1, 2 and 3\n'), ''),
-    ('4 --reply 1ms --seconds 3 --stop 1@0.5s+1s', 0, re.compile(r'(?s).*could not run for .* take a longer --reply\n.*'), ''),
     ('2 --reply 600ms --board 1=false', 1, '', 'plant: board 1 does not start\n'),
     ('2 --reply 600ms --record /nothing/there', 1, '',
      'master: /nothing/there: No such file or directory\nplant: the master ended by itself, with status 1\n'),
 ]
 
 
-ENDS = ('Ctrl-C', 'the terminal ends', 'SIGHUP', 'SIGTERM', 'a board ends')
+ENDS = ('Ctrl-C', 'the terminal ends', 'SIGHUP', 'SIGTERM', 'a board ends', 'a board is stopped by others')
 
 
 def wrong_call(plant, row, members, folder):
@@ -70,7 +69,8 @@ def none_left(what, session, members):
 
 
 def ended(plant, how, members, folder):
-    """A plant that runs without an end: by Ctrl-C and by the end of the terminal, which go to all processes; by a kill; by the death of a board."""
+    """A plant that runs without an end: by Ctrl-C and by the end of the terminal, which go to all processes; by a kill; by the death of a board. One
+    of whose boards the computer does not let run says so first."""
     process = subprocess.Popen([plant, '4', '--reply', '600ms'], env={**os.environ, 'TMPDIR': folder}, stdin=subprocess.DEVNULL,
                                stdout=subprocess.PIPE, stderr=subprocess.PIPE, start_new_session=True)
     process.stdout.readline()
@@ -85,8 +85,13 @@ def ended(plant, how, members, folder):
     elif how == 'SIGKILL':
         process.kill()
     else:
-        boards = [pid for pid in members(process.pid) if command_of(pid)[-6:-4] == ['4', '2']]
-        os.kill(boards[0], signal.SIGKILL)
+        board = next(pid for pid in members(process.pid) if command_of(pid)[-6:-4] == ['4', '2'])
+        os.kill(board, signal.SIGKILL if how == 'a board ends' else signal.SIGSTOP)
+    if how == 'a board is stopped by others':
+        time.sleep(0.3)
+        os.kill(board, signal.SIGCONT)
+        time.sleep(0.5)
+        process.terminate()
     try:
         out, err = (piece.decode() for piece in process.communicate(timeout=60))
     except subprocess.TimeoutExpired:
@@ -99,6 +104,8 @@ def ended(plant, how, members, folder):
         yield f'{how}: status {process.returncode}, not {status}: {err}'
     if status == 0 and not re.search(r'rounds? closed, \d+ entr(y|ies); live: 0, 1, 2 and 3\n$', out):
         yield f'{how}: it ends with {out[-100:]!r}'
+    if how == 'a board is stopped by others' and not re.search(r'board 2 could not run for \d+ ms\. .* take a longer --reply\n', out):
+        yield f'{how}: it does not say so: {out[-400:]!r}'
     if how == 'a board ends' and err != 'plant: board 2 ended by itself, with status -9\n':
         yield f'{how}: it says {err!r}'
     yield from none_left(how, process.pid, members)
