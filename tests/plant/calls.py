@@ -116,6 +116,48 @@ def command_of(pid):
         return [word.decode() for word in file.read().split(b'\0')[:-1]]
 
 
+def entries_saved(file):
+    """How many, by the head of what the bus master saved."""
+    if not os.path.exists(file):
+        return 0
+    with open(file, 'rb') as saved:
+        return int.from_bytes(saved.read(8)[4:], 'big')
+
+
+def read_late(made, folder):
+    """A bus master whose output nobody reads for a while waits, and writes whole lines, also if it is told to end meanwhile: just the entries that it
+    saved are printed."""
+    saved, processes = os.path.join(folder, 'read-late'), []
+
+    def begin(name, *words):
+        processes.append(subprocess.Popen([os.path.join(made, name), *words], stdin=subprocess.DEVNULL, stdout=subprocess.PIPE))
+        return processes[-1]
+
+    try:
+        cable = f'udp:{begin("hub").stdout.readline().decode().strip()}'
+        for k in range(8):
+            begin('board', cable, 'cube', '8', str(k), '--reply', '600').stdout.readline()
+        master = begin('master', cable, 'cube', '8', '--reply', '600', '--save', saved)
+        before, until = -1, time.monotonic() + 30
+        while (before == 0 or before != entries_saved(saved)) and time.monotonic() < until:
+            before = entries_saved(saved)
+            time.sleep(0.5)
+        master.terminate()
+        time.sleep(0.2)
+        lines = master.communicate(timeout=30)[0].decode().split('\n')
+        entries = [line.split(' ') for line in lines if ' entry ' in line]
+        if [fields[2] for fields in entries] != [str(number + 1) for number in range(entries_saved(saved))]:
+            yield f'of {entries_saved(saved)} entries the bus master prints {len(entries)}'
+        for fields in entries:
+            if len(fields) != 15 or len(fields[-1]) != 2 * 8 * (8 + 6):
+                yield f'the bus master prints a line that is not whole: {" ".join(fields)}'
+        os.remove(saved)
+    finally:
+        for process in processes:
+            process.kill()
+            process.communicate()
+
+
 def check(plant, members):
     """How many calls there are, and what is wrong."""
     wrong = []
@@ -124,7 +166,8 @@ def check(plant, members):
             wrong += wrong_call(plant, row, members, folder)
         for how in ENDS:
             wrong += ended(plant, how, members, folder)
+        wrong += read_late(os.environ['VCUBE_PLANT'], folder)
         if os.listdir(folder):
             wrong.append(f'files are left: {os.listdir(folder)}')
         wrong += ended(plant, 'SIGKILL', members, folder)
-    return len(WRONG) + len(ENDS) + 1, wrong
+    return len(WRONG) + len(ENDS) + 2, wrong

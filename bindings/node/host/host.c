@@ -43,6 +43,8 @@ void host_signals(void)
 
     memset(&action, 0, sizeof action);
     action.sa_handler = on_signal;
+    /* A line that is being printed is printed whole; ppoll is interrupted all the same. */
+    action.sa_flags = SA_RESTART;
     sigaction(SIGTERM, &action, NULL);
     signal(SIGINT, SIG_IGN);
     signal(SIGHUP, SIG_IGN);
