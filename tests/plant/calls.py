@@ -1,5 +1,6 @@
 """Calls of ./plant: its arguments, and how it ends."""
 
+import concurrent.futures
 import os
 import re
 import signal
@@ -161,11 +162,10 @@ def read_late(made, folder):
 def check(plant, members):
     """How many calls there are, and what is wrong."""
     wrong = []
-    with tempfile.TemporaryDirectory() as folder:
-        for row in WRONG:
-            wrong += wrong_call(plant, row, members, folder)
-        for how in ENDS:
-            wrong += ended(plant, how, members, folder)
+    with tempfile.TemporaryDirectory() as folder, concurrent.futures.ThreadPoolExecutor(3) as pool:
+        for its in [*pool.map(lambda row: list(wrong_call(plant, row, members, folder)), WRONG),
+                    *pool.map(lambda how: list(ended(plant, how, members, folder)), ENDS)]:
+            wrong += its
         wrong += read_late(os.environ['VCUBE_PLANT'], folder)
         if os.listdir(folder):
             wrong.append(f'files are left: {os.listdir(folder)}')
