@@ -266,8 +266,8 @@ row-skip {w} {over} {m} {now} i read g h e d kept =
 -- after the last line
 pub all-done : {w p : ℕ} {over : Bool} {m now : Mending} → Reached w over m now p → p ≡ line_start m.n m.n
     → let u = mended_by w m.n m.table.now over in
-      (now.table.now ≡ u) × (now.report.now ≡ sets m.report.now 0 (flat_map change_bytes (changes m.table.now u)))
-      × (now.changes ≡ length (changes m.table.now u))
+    (now.table.now ≡ u) × (now.report.now ≡ sets m.report.now 0 (flat_map change_bytes (changes m.table.now u)))
+    × (now.changes ≡ length (changes m.table.now u))
 all-done {w} {p} {over} {m} {now} g e =
     progress-done m.table.now (mended_by w m.n m.table.now over) m.report.now p now.table.now now.report.now now.changes g.so_far
     (e ∙ line-last m.n ∙ sym m.fits) (table_of-length m.n (mended_byte w m.n m.table.now over) ∙ sym m.fits)

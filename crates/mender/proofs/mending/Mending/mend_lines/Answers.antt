@@ -1,5 +1,5 @@
 -- The loops go from place to place.
-use Rattle.std.proofs.Common.{◌≡◌, ◌+◌, ◌<◌, refl, sym, ap, ◌∙◌, arith}
+use Rattle.std.proofs.Common.{◌≡◌, ◌+◌, sym, ap, ◌∙◌, arith}
 use Rattle.table.specs.Table.{head, line_start}
 use Rattle.table.specs.Wiring.{wiring_number}
 use Rattle.mender.proofs.Progress.{reached-start, reached-at, reached-inside, reached-few, reached-next, head-put, row-put, row-skip, line-next, all-done}
