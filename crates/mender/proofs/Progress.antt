@@ -80,7 +80,8 @@ unfolding list_of
 progress-start t u r p count e k = rw (e, k) record { bytes = refl; listed = refl; counted = refl }
 
 -- a byte that is not yet reached
-pub progress-ahead : (t u r : List ℕ) (p : ℕ) (now report : List ℕ) (count q : ℕ) → Progress t u r p now report count → p ≤ q → get_or now q 0 ≡ get_or t q 0
+pub progress-ahead : (t u r : List ℕ) (p : ℕ) (now report : List ℕ) (count q : ℕ) → Progress t u r p now report count → p ≤ q
+    → get_or now q 0 ≡ get_or t q 0
 progress-ahead t u r p now report count q g h =
     rw g.bytes (sets-ahead t (list_of (λ k. get_or u k 0) p) 0 q (omega (arith, list_of-length (λ k. get_or u k 0) p)))
 
@@ -101,7 +102,8 @@ listed-next t u r p report count l k =
     ∙ ap₂ (λ x y. sets x y (change_bytes (change_at t u p))) (sym l) place in
     rw e (sym put ∙ sym (rw e at next)))
 
-counted-next : (t u : List ℕ) (p count : ℕ) → count ≡ length (changes_below t u p) → count_with count (change_at t u p) ≡ length (changes_below t u (suc p))
+counted-next : (t u : List ℕ) (p count : ℕ) → count ≡ length (changes_below t u p)
+    → count_with count (change_at t u p) ≡ length (changes_below t u (suc p))
 counted-next t u p count k =
     let next = ap length (changes-suc t u p) in
     by_bool (eqb (get_or t p 0) (get_or u p 0))
@@ -144,16 +146,15 @@ suspicion-stays : (i k byte : ℕ) → byte ≤ 1 → (k ≡ i → byte ≡ 0) �
 suspicion-stays i k byte low own = by_bool (eqb k i) (λ e. rw e (sym (own (eqb-true k i e)))) (λ e. rw (e, le-ltb 1 byte low) refl)
 
 -- all bytes are put
-pub progress-done : (t u r : List ℕ) (p : ℕ) (now report : List ℕ) (count : ℕ) → Progress t u r p now report count → p ≡ length t → length u ≡ length t
+pub progress-done : (t u r : List ℕ) (p : ℕ) (now report : List ℕ) (count : ℕ) → Progress t u r p now report count → p ≡ length t
+    → length u ≡ length t
     → (now ≡ u) × (report ≡ sets r 0 (flat_map change_bytes (changes t u))) × (count ≡ length (changes t u))
 unfolding changes
 progress-done t u r p now report count g e l =
-    (g.bytes ∙ rw e (sets-all t (list_of (λ q. get_or u q 0) (length t)) (sym (list_of-length (λ q. get_or u q 0) (length t))) ∙ whole), rw e at g.listed, rw e at g.counted)
-  where
-    whole : list_of (λ q. get_or u q 0) (length t) ≡ u
-    whole =
-        ext_get_or 0 (list_of (λ q. get_or u q 0) (length t)) u (list_of-length (λ q. get_or u q 0) (length t) ∙ sym l)
-        (λ k h. list_of-at (λ q. get_or u q 0) (length t) k (omega (arith, list_of-length (λ q. get_or u q 0) (length t))))
+    let put = list_of-length (λ q. get_or u q 0) (length t) in
+    let whole = ext_get_or 0 (list_of (λ q. get_or u q 0) (length t)) u (put ∙ sym l)
+    (λ k h. list_of-at (λ q. get_or u q 0) (length t) k (omega (arith, put))) in
+    (g.bytes ∙ rw e (sets-all t (list_of (λ q. get_or u q 0) (length t)) (sym put) ∙ whole), rw e at g.listed, rw e at g.counted)
 
 -- the mended table, where it is known whether the round is over
 abbrev pub mended_by : ℕ → ℕ → List ℕ → Bool → List ℕ
@@ -189,9 +190,9 @@ pub reached-at : {w p q : ℕ} {over : Bool} {m now : Mending} → Reached w ove
 reached-at {w} {p} {q} {over} {m} {now} g e = subst (λ (x : ℕ). Reached w over m now x) e g
 
 -- a place of line i is one of the table
-pub reached-inside : {w p : ℕ} {over : Bool} {m now : Mending} (i c : ℕ) → Reached w over m now p → i < m.n → c < stride m.n
-    → line_start m.n i + c < length now.table.now
-reached-inside {w} {p} {over} {m} {now} i c g h hc =
+pub reached-inside : {w p : ℕ} {over : Bool} {m now : Mending} (i c at : ℕ) → Reached w over m now p → i < m.n → c < stride m.n
+    → at ≡ line_start m.n i + c → at < length now.table.now
+reached-inside {w} {p} {over} {m} {now} i c at g h hc a =
     let long : length now.table.now ≡ table_length m.n = now.fits ∙ ap table_length g.same.size in
     omega (arith, inside m.n i c h hc)
 
@@ -205,7 +206,7 @@ reached-ahead : {w p : ℕ} {over : Bool} {m now : Mending} (i c : ℕ) → Reac
     → cell m.n now.table.now i c ≡ cell m.n m.table.now i c
 unfolding cell
 reached-ahead {w} {p} {over} {m} {now} i c g h =
-    progress-ahead m.table.now (mended_by w m.n m.table.now over) m.report.now p now.table.now now.report.now now.changes (line_start m.n i + c) g.so_far h
+    progress-ahead m.table.now (mended_by w m.n m.table.now over) m.report.now p _ _ _ (line_start m.n i + c) g.so_far h
 
 -- the mended byte is put at its place
 pub reached-next : {w p at byte : ℕ} {over : Bool} {m now next : Mending} (q : ℕ) → Reached w over m now p → at ≡ p → q ≡ p + 1
@@ -250,7 +251,8 @@ row-skip {w} {over} {m} {now} i read g h e d kept =
     let start = line_start m.n i + head in
     let t = now.table.now in
     let mended = mended_by w m.n m.table.now over in
-    let here : row_rule m.n t i ≡ true = subst (λ (x : ℕ). row_rule x t i ≡ true) (e ∙ g.same.size) (subst (λ (x : List ℕ). row_rule read.n x i ≡ true) d kept) in
+    let here : row_rule read.n t i ≡ true = subst (λ (x : List ℕ). row_rule read.n x i ≡ true) d kept in
+    let here : row_rule m.n t i ≡ true = subst (λ (x : ℕ). row_rule x t i ≡ true) (e ∙ g.same.size) here in
     let parts = both (eqb (get_or t (line_start m.n i + (head + i)) 0) 0) (every (suspicion_rule m.n t i) m.n) here in
     let end = progress-skip m.table.now mended m.report.now start (start + m.n) t now.report.now now.changes g.so_far (omega arith)
     (λ y a b.
@@ -259,7 +261,8 @@ row-skip {w} {over} {m} {now} i read g h e d kept =
     let hk : k < m.n = omega arith in
     let low = leb-true (get_or t (line_start m.n i + (head + k)) 0) 1 (every-at (suspicion_rule m.n t i) m.n k parts.1 hk) in
     let own = eqb-true (get_or t (line_start m.n i + (head + i)) 0) 0 parts.0 in
-    let stays = suspicion-stays i k (get_or t y 0) (rw at low) (λ s. ap (λ (x : ℕ). get_or t x 0) (at ∙ ap (λ (x : ℕ). line_start m.n i + (head + x)) s) ∙ own) in
+    let stays = suspicion-stays i k (get_or t y 0) (rw at low)
+    (λ s. ap (λ (x : ℕ). get_or t x 0) (at ∙ ap (λ (x : ℕ). line_start m.n i + (head + x)) s) ∙ own) in
     ap (λ (x : ℕ). get_or mended x 0) at ∙ sym (row-put i k y g a h hk at) ∙ stays) in
     reached-at (record { same = g.same; so_far = end }) (omega (arith, line-next m.n i))
 
