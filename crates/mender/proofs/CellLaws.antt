@@ -37,7 +37,7 @@ unfolding cell
 table_of-cell n f i c h hc = table_of-at n f i c h hc
 
 -- a place of the table is a column of a line
-pub place-parts : (n p : ℕ) → p < table_length n → (line_start n (p / stride n) + p % stride n ≡ p) × (p / stride n < n) × (p % stride n < stride n)
+place-parts : (n p : ℕ) → p < table_length n → (line_start n (p / stride n) + p % stride n ≡ p) × (p / stride n < n) × (p % stride n < stride n)
 unfolding table_length line_start
 place-parts n p h =
     let some : 0 < stride n = omega arith in

@@ -34,7 +34,7 @@ pub mended-length : (w n : ℕ) (t : List ℕ) → length (mended w n t) ≡ tab
 unfolding mended
 mended-length w n t = table_of-length n (mended_byte w n t (is_over w n t))
 
-pub mended-cell : (w n : ℕ) (t : List ℕ) (i c : ℕ) → i < n → c < stride n → cell n (mended w n t) i c ≡ mended_byte w n t (is_over w n t) i c
+mended-cell : (w n : ℕ) (t : List ℕ) (i c : ℕ) → i < n → c < stride n → cell n (mended w n t) i c ≡ mended_byte w n t (is_over w n t) i c
 unfolding mended
 mended-cell w n t i c h hc = table_of-cell n (mended_byte w n t (is_over w n t)) i c h hc
 
@@ -43,11 +43,11 @@ pub status-mended : (w n : ℕ) (t : List ℕ) (i : ℕ) → i < n → status n 
 unfolding line_byte
 status-mended w n t i h = mended-cell w n t i 0 h (omega arith) ∙ outside-pass w n t (is_over w n t) i 0 refl
 
-pub told_by-mended : (w n : ℕ) (t : List ℕ) (i : ℕ) → i < n → told_by n (mended w n t) i ≡ new_told_by n t i
+told_by-mended : (w n : ℕ) (t : List ℕ) (i : ℕ) → i < n → told_by n (mended w n t) i ≡ new_told_by n t i
 unfolding line_byte
 told_by-mended w n t i h = mended-cell w n t i 4 h (omega arith) ∙ outside-pass w n t (is_over w n t) i 4 refl
 
-pub rounds_ago-mended : (w n : ℕ) (t : List ℕ) (i : ℕ) → i < n
+rounds_ago-mended : (w n : ℕ) (t : List ℕ) (i : ℕ) → i < n
     → rounds_ago n (mended w n t) i ≡ mended_rounds_ago n i (new_status n t i) (new_told_by n t i) (rounds_ago n t i)
 unfolding line_byte
 rounds_ago-mended w n t i h = mended-cell w n t i 5 h (omega arith) ∙ outside-pass w n t (is_over w n t) i 5 refl
@@ -67,7 +67,7 @@ unfolding mended_byte line_byte
 pass-bytes w n t true i = record { next_is = refl; finished_is = refl; tests_is = refl }
 pass-bytes w n t false i = record { next_is = refl; finished_is = refl; tests_is = refl }
 
-pub pass-mended : (w n : ℕ) (t : List ℕ) (i : ℕ) → i < n
+pass-mended : (w n : ℕ) (t : List ℕ) (i : ℕ) → i < n
     → PassMended w n t (is_over w n t) (next_distance n (mended w n t) i) (finished n (mended w n t) i) (tests_made n (mended w n t) i) i
 pass-mended w n t i h =
     let b = pass-bytes w n t (is_over w n t) i in
@@ -125,7 +125,7 @@ line-right w n t i h =
     (every-all (suspicion_rule n u i) n (λ k hk. rw (suspects-mended w n t i k h hk) (row-right i k (suspects n t i k))))
 
 -- with no restart the table is that of the mended lines
-pub no-restart : (w n : ℕ) (t : List ℕ) → is_over w n t ≡ false → mended w n t ≡ lines_mended w n t
+no-restart : (w n : ℕ) (t : List ℕ) → is_over w n t ≡ false → mended w n t ≡ lines_mended w n t
 unfolding mended table_of mended_byte
 no-restart w n t e = rw e refl
 
@@ -143,7 +143,7 @@ restarted n u none =
     or-false true = refl
     or-false false = refl
 
-pub mended-open : (w n : ℕ) (t : List ℕ) → round_over n (mended w n t) ≡ false
+mended-open : (w n : ℕ) (t : List ℕ) → round_over n (mended w n t) ≡ false
 mended-open w n t =
     by_bool (is_over w n t)
     (λ e. restarted n (mended w n t) (λ i h. (pass-mended w n t i h).finished_is ∙ rw e refl))
@@ -198,7 +198,7 @@ good-byte w n t i c e h hc =
         stays k own low =
             by_bool (eqb k i) (λ e. rw e (sym (ap (suspects n t i) (eqb-true k i e) ∙ own))) (λ e. rw (e, le-ltb 1 (suspects n t i k) low) refl)
 
-pub good-lines : (w n : ℕ) (t : List ℕ) → Accepted w n t → lines_mended w n t ≡ t
+good-lines : (w n : ℕ) (t : List ℕ) → Accepted w n t → lines_mended w n t ≡ t
 good-lines w n t a =
     table_of-is n (line_byte w n t) t a.long
     (λ i c h hc. good-byte w n t i c (every-at (wired_line_rules w n t) n i a.lines h) h hc)

@@ -75,12 +75,12 @@ changes-few t u (suc p) =
     (λ e. let s = ap length (changes-suc t u p) in omega (arith, rw (e, length-append) at s, changes-few t u p))
     (λ e. let s = ap length (changes-suc t u p) in omega (arith, rw (e, append-nil) at s, changes-few t u p))
 
-pub progress-start : (t u r : List ℕ) (p count : ℕ) → p ≡ 0 → count ≡ 0 → Progress t u r p t r count
+progress-start : (t u r : List ℕ) (p count : ℕ) → p ≡ 0 → count ≡ 0 → Progress t u r p t r count
 unfolding list_of
 progress-start t u r p count e k = rw (e, k) record { bytes = refl; listed = refl; counted = refl }
 
 -- a byte that is not yet reached
-pub progress-ahead : (t u r : List ℕ) (p : ℕ) (now report : List ℕ) (count q : ℕ) → Progress t u r p now report count → p ≤ q
+progress-ahead : (t u r : List ℕ) (p : ℕ) (now report : List ℕ) (count q : ℕ) → Progress t u r p now report count → p ≤ q
     → get_or now q 0 ≡ get_or t q 0
 progress-ahead t u r p now report count q g h =
     rw g.bytes (sets-ahead t (list_of (λ k. get_or u k 0) p) 0 q (omega (arith, list_of-length (λ k. get_or u k 0) p)))
@@ -111,7 +111,7 @@ counted-next t u p count k =
     (λ e. rw e (omega (arith, k, rw (e, length-append) at next)))
 
 -- the mended byte is put at its place
-pub progress-next : (t u r : List ℕ) (p at next : ℕ) (now report now' report' : List ℕ) (count count' byte : ℕ) → Progress t u r p now report count
+progress-next : (t u r : List ℕ) (p at next : ℕ) (now report now' report' : List ℕ) (count count' byte : ℕ) → Progress t u r p now report count
     → at ≡ p → next ≡ p + 1 → byte ≡ get_or u p 0 → now' ≡ set now at byte
     → report' ≡ with_change report count (record { offset = at; before = get_or now at 0; after = byte })
     → count' ≡ count_with count (record { offset = at; before = get_or now at 0; after = byte })
@@ -130,7 +130,7 @@ progress-next t u r p at next now report now' report' count count' byte g a n b 
     same = rw (a, progress-ahead t u r p now report count p g (omega arith), b) refl
 
 -- bytes that are as mended already are passed over
-pub progress-skip : (t u r : List ℕ) (p q : ℕ) (now report : List ℕ) (count : ℕ) → Progress t u r p now report count → p ≤ q
+progress-skip : (t u r : List ℕ) (p q : ℕ) (now report : List ℕ) (count : ℕ) → Progress t u r p now report count → p ≤ q
     → ((y : ℕ) → p ≤ y → y < q → get_or u y 0 ≡ get_or now y 0) → Progress t u r q now report count
 progress-skip t u r p q now report count g l =
     le_ind (λ (x : ℕ). ((y : ℕ) → p ≤ y → y < x → get_or u y 0 ≡ get_or now y 0) → Progress t u r x now report count) (λ same. g)
@@ -146,7 +146,7 @@ suspicion-stays : (i k byte : ℕ) → byte ≤ 1 → (k ≡ i → byte ≡ 0) �
 suspicion-stays i k byte low own = by_bool (eqb k i) (λ e. rw e (sym (own (eqb-true k i e)))) (λ e. rw (e, le-ltb 1 byte low) refl)
 
 -- all bytes are put
-pub progress-done : (t u r : List ℕ) (p : ℕ) (now report : List ℕ) (count : ℕ) → Progress t u r p now report count → p ≡ length t
+progress-done : (t u r : List ℕ) (p : ℕ) (now report : List ℕ) (count : ℕ) → Progress t u r p now report count → p ≡ length t
     → length u ≡ length t
     → (now ≡ u) × (report ≡ sets r 0 (flat_map change_bytes (changes t u))) × (count ≡ length (changes t u))
 unfolding changes
@@ -165,11 +165,11 @@ pub line-next : (n i : ℕ) → line_start n (i + 1) ≡ line_start n i + (head 
 unfolding line_start
 line-next n i = let e = suc-mul i (stride n) in rw add-one (omega arith)
 
-pub line-first : (n : ℕ) → line_start n 0 ≡ 0
+line-first : (n : ℕ) → line_start n 0 ≡ 0
 unfolding line_start
 line-first n = zero-mul (stride n)
 
-pub line-last : (n : ℕ) → line_start n n ≡ table_length n
+line-last : (n : ℕ) → line_start n n ≡ table_length n
 unfolding line_start table_length
 line-last n = refl
 

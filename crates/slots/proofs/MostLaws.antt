@@ -42,5 +42,6 @@ pub greatest-one : {f : List ℕ → ℕ → ℕ} {given row : List ℕ} {k most
 greatest-one {f} {given} {row} {k} {most} figure most' row' g e same m =
     record { greatest_is = m ∙ greatest-next (f given) k most figure g.greatest_is (e ∙ ap (λ r. f r k) g.same); same = same ∙ g.same }
 
-pub greatest-all : {f : List ℕ → ℕ → ℕ} {given row : List ℕ} {k most : ℕ} (n : ℕ) → GreatestSoFar f given k most row → k ≡ n → GreatestSoFar f given n most row
+pub greatest-all : {f : List ℕ → ℕ → ℕ} {given row : List ℕ} {k most : ℕ} (n : ℕ) → GreatestSoFar f given k most row → k ≡ n
+    → GreatestSoFar f given n most row
 greatest-all n g e = record { greatest_is = rw e at g.greatest_is; same = g.same }
