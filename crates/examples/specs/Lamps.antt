@@ -1,14 +1,11 @@
 -- Examples of the doubt lamp, in a table: what the definitions compute, and what is expected. One statement covers it.
 -- Assumes nothing.
-use Rattle.std.specs.Prelude.{◌≡◌, refl, List, [], ◌∷◌, map, ℕ, ◌+◌, Option, Some, None, Result, Ok, Err}
-use Rattle.lists.specs.Search.{least, every, list_of}
+use Rattle.std.specs.Prelude.{refl, List, [], ◌∷◌, ℕ, ◌+◌, Option, Some, None, Result, Ok, Err}
 use Rattle.lists.specs.Refusal.{number_of}
 use Rattle.lists.specs.declared.refusal.Refusal.{Refusal}
-use Rattle.table.specs.Sizes.{is_size, level, dimension, distances}
-use Rattle.table.specs.Wiring.{wiring_cube, end_distance}
-use Rattle.table.specs.Table.{head, table_length, line_start, cell, set_cell, status_column, next_column}
-use Rattle.table.specs.Rules.{exit_rule, row_rule, wired_line_rules, some_live, live_finished, shape_check, table_check_on}
-use Rattle.table.specs.Fresh.{fresh_byte, fresh_table}
+use Rattle.table.specs.Wiring.{wiring_cube}
+use Rattle.table.specs.Table.{head, set_cell, status_column, next_column}
+use Rattle.table.specs.Fresh.{fresh_table}
 use Rattle.plant.specs.Turn.{finish_pass}
 use Rattle.lamp.specs.declared.Doubt.{Doubt}
 use Rattle.lamp.specs.Doubt.{doubts, first_doubt, doubt_lamp}

@@ -1,25 +1,13 @@
 -- Examples of grants and of drives, in two tables: what the definitions compute, and what is expected. One statement covers each.
 -- Assumes nothing.
-use Rattle.std.specs.Prelude.{◌≡◌, refl, List, [], ◌∷◌, map, ℕ, ◌+◌}
-use Rattle.lists.specs.Search.{least, every, list_of}
-use Rattle.table.specs.Sizes.{is_size, level, dimension, distances}
-use Rattle.station.specs.Groups.{width, member}
-use Rattle.table.specs.Wiring.{wiring_cube, end_distance}
-use Rattle.table.specs.Table.{head, table_length, line_start, cell, set_cell, status_column, row, set_row}
-use Rattle.table.specs.Rules.{exit_rule, row_rule, wired_line_rules, some_live, live_finished, shape_check, table_check_on}
-use Rattle.station.specs.Wired.{wired_station, wired_due}
-use Rattle.station.specs.Tests.{unsuspected, first_place, first, answer, due}
-use Rattle.station.specs.Rows.{union_byte, union, mark}
-use Rattle.table.specs.Fresh.{fresh_byte, fresh_table}
-use Rattle.lists.specs.Steps.{after_steps}
-use Rattle.plant.specs.Turn.{leave_told, next_test, makes_test, finish_pass, count_test, replies, is_told, exchange_rows, suspect, reply_outcome}
-use Rattle.station.specs.Wired.{next_after}
-use Rattle.plant.specs.Turn.{test_outcome, after_outcome, self_or_suspected, is_alone, after_alone, after_test, testing, turn}
-use Rattle.plant.specs.Round.{rounds_after, reset_line, reset_lines, after_round}
-use Rattle.plant.specs.Entry.{state_of, acted, after}
+use Rattle.std.specs.Prelude.{refl, List, [], ◌∷◌, map, ℕ, ◌+◌}
+use Rattle.table.specs.Wiring.{wiring_cube}
+use Rattle.table.specs.Table.{head, set_cell, status_column}
+use Rattle.table.specs.Fresh.{fresh_table}
+use Rattle.plant.specs.Turn.{finish_pass}
+use Rattle.plant.specs.Entry.{state_of}
 use Rattle.granter.specs.Grant.{waits, first_from, following, granted, grant_check, grant_refusal, grant_answer, grant_station}
 use Rattle.granter.specs.Drive.{DriveResult, grant_turn, after_grants, ended, stops, grants_made, outcome_after, drive}
-use Rattle.lists.specs.Bytes.{joined_byte}
 use Rattle.examples.specs.Example.{Example, expect, AllHold}
 use Rattle.plant.proofs.WholeRun.{whole_run}
 

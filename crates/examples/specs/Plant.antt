@@ -1,29 +1,19 @@
 -- Examples of the plant's rules, in two tables: what the definitions compute, and what is expected. One statement covers each.
 -- Assumes nothing.
-use Rattle.std.specs.Prelude.{◌≡◌, ℕ, ◌+◌, List, [], ◌∷◌, map, drop, replicate, refl}
-use Rattle.lists.specs.Search.{least, every, list_of}
-use Rattle.table.specs.Sizes.{is_size, level, dimension, distances}
-use Rattle.station.specs.Groups.{width, member, full_group, group, station_at}
-use Rattle.table.specs.Wiring.{wiring_cube, end_distance}
-use Rattle.table.specs.Table.{head, table_length, line_start, cell, set_cell, status_column, next_column, told_by_column, rounds_ago_column}
-use Rattle.table.specs.Table.{told_by, row, set_row}
-use Rattle.table.specs.Rules.{exit_rule, row_rule, wired_line_rules, some_live, live_finished, shape_check, table_check_on, table_refusal}
-use Rattle.station.specs.Wired.{wired_station, wired_due}
-use Rattle.station.specs.Tests.{unsuspected, first_place, first, answer, due, due_distances}
-use Rattle.station.specs.Rows.{union_byte, union, mark}
-use Rattle.table.specs.Fresh.{fresh_byte, fresh_table}
+use Rattle.std.specs.Prelude.{ℕ, ◌+◌, List, [], ◌∷◌, map, drop, replicate, refl}
+use Rattle.station.specs.Groups.{group, station_at}
+use Rattle.table.specs.Wiring.{wiring_cube}
+use Rattle.table.specs.Table.{head, line_start, set_cell, status_column, next_column, told_by_column, rounds_ago_column}
+use Rattle.table.specs.Table.{told_by, row}
+use Rattle.table.specs.Rules.{table_refusal}
+use Rattle.station.specs.Tests.{due_distances}
+use Rattle.table.specs.Fresh.{fresh_table}
 use Rattle.station.specs.Calls.{other_distances, assignment_entries}
-use Rattle.lists.specs.Steps.{after_steps}
-use Rattle.plant.specs.Turn.{leave_told, next_test, makes_test, finish_pass, count_test, replies, is_told, exchange_rows, suspect, reply_outcome}
-use Rattle.station.specs.Wired.{next_after}
-use Rattle.plant.specs.Turn.{test_outcome, after_outcome, self_or_suspected, is_alone, after_alone, after_test, testing, turn, turn_tested, turn_outcome}
-use Rattle.plant.specs.Turn.{crash}
-use Rattle.plant.specs.Round.{rounds_after, reset_line, reset_lines, after_round}
-use Rattle.plant.specs.Entry.{state_of, entry_check, entry_refusal, acted, after, tested_of, outcome_of, sheet_line}
-use Rattle.plant.specs.Run.{RunResult, entries, go_on, start_check, start_refusal, run}
+use Rattle.plant.specs.Turn.{finish_pass}
+use Rattle.plant.specs.Entry.{state_of}
+use Rattle.plant.specs.Run.{RunResult, run}
 use Rattle.lists.specs.Sums.{sum_below}
 use Rattle.detection.specs.Claim.{group_without_live, pairs_without_live, tests_per_round}
-use Rattle.lists.specs.Bytes.{joined_byte}
 use Rattle.examples.specs.Example.{Example, expect, AllHold}
 use Rattle.plant.proofs.WholeRun.{whole_run}
 

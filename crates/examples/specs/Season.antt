@@ -1,6 +1,6 @@
 -- Examples of figures in one table: what the definitions compute, and what is expected. One statement covers it.
 -- Assumes nothing.
-use Rattle.std.specs.Prelude.{◌≡◌, refl, List, [], ◌∷◌, map, ℕ, Result, Ok, Err}
+use Rattle.std.specs.Prelude.{refl, List, [], ◌∷◌, ℕ, Result, Ok, Err}
 use Rattle.lists.specs.declared.refusal.Refusal.{Refusal}
 use Rattle.lists.specs.Refusal.{number_of}
 use Rattle.figures.specs.declared.Figures.{Figures}

@@ -1,7 +1,7 @@
 -- Examples of which tests a board makes, and how many: what the definitions compute, and what is expected, in one table, and one that takes longer
 -- to compute.
 -- Assumes nothing.
-use Rattle.std.specs.Prelude.{◌≡◌, ℕ, true, false, List, [], ◌∷◌, map, refl}
+use Rattle.std.specs.Prelude.{◌≡◌, ℕ, true, false, List, [], ◌∷◌, refl}
 use Rattle.lists.specs.Search.{least, list_of, greatest}
 use Rattle.table.specs.Sizes.{level, dimension, distances}
 use Rattle.station.specs.Groups.{width, member}

@@ -6,7 +6,6 @@ use mathlib.Core.Bool.{true, false}
 use mathlib.Core.List.{List}
 use Prim.Native.Nat.{ℕ, suc, ◌+◌, ◌*◌, ◌≤◌, ◌<◌}
 use native.Mathlib.Decide.{dec_lt}
-use native.Mathlib.Nat.{mul-le-mul}
 use native.Mathlib.Numerals.{add-one}
 use native.Mathlib.Omega.{arith}
 use borrow.Author.Tests.{eqb-true, eqb-false, eq-eqb, ne_eqb, not-false}
@@ -14,7 +13,6 @@ use lib.Dec.{eqb}
 use Rattle.table.specs.Rules.{some_live, round_over, numbered_table_refusal}
 use Rattle.lists.proofs.BoolLaws.{by_bool, neither}
 use Rattle.lists.proofs.SearchLaws.{least-is, least-none}
-use Rattle.table.proofs.SizeLaws.{size-bounds}
 use Rattle.table.proofs.Accepting.{Accepted}
 use Rattle.table.proofs.CellLaws.{accepted-line}
 use Rattle.plant.specs.Turn.{kind_turn, kind_crash}
@@ -162,12 +160,6 @@ pub drive-made : (w n : ℕ) (s : State) (last k : ℕ) → grant_refusal w n s.
     → outcome_after w n (stand_at s last) k ≡ drive w n s last
 unfolding drive
 drive-made w n s last k z stop = rw (z, made-is w n (stand_at s last) k stop)
-
--- the grants made so far are few
-pub grants-small : (w n : ℕ) (p : Stand) (k : ℕ) → Driving w n p k → k ≤ 4096
-grants-small w n p k d =
-    let top = (size-bounds n d.ok.size).1 in
-    omega (arith, d.room, mul-le-mul top top)
 
 -- a grant and its turn, by the station and the state after it
 pub turned-is : (w n : ℕ) (q : Stand) (s : State) (i : ℕ) → i ≡ granted_at n q → s ≡ after w n q.state (entry_of kind_turn i)

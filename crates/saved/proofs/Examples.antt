@@ -1,12 +1,6 @@
 -- The examples of specs/Examples hold: they are computed.
 -- Assumes nothing.
 use mathlib.Core.Path.{refl}
-use Rattle.lists.specs.Search.{every, list_of, least}
-use Rattle.table.specs.Sizes.{is_size, level, dimension, distances}
-use Rattle.table.specs.Table.{table_length, line_start, cell}
-use Rattle.table.specs.Wiring.{end_distance}
-use Rattle.table.specs.Rules.{exit_rule, row_rule, wired_line_rules, some_live, live_finished, shape_check, table_check_on}
-use Rattle.table.specs.Fresh.{fresh_byte, fresh_table}
 use Rattle.saved.specs.Bytes.{bytes_value, bytes_of, concat_of}
 use Rattle.saved.specs.Fields.{field_bytes, fields_up_to, fields, runs_past, fields_of, tagged}
 use Rattle.saved.specs.Plant.{size_in, tally_rounds, tally_tests, size_and_tally, plant_check, of_station, all_fit, lines_right, table_in}

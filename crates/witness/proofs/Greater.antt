@@ -4,29 +4,25 @@
 use mathlib.Core.Path.{◌≡◌, refl, sym, ap, ◌∙◌}
 use mathlib.Core.Bool.{Bool, true, false, cond, not, ◌&&◌}
 use mathlib.Core.List.{List, []}
-use Prim.Native.Nat.{ℕ, suc, ◌+◌, ◌-◌, ◌*◌, ◌/◌, ◌%◌, ◌^◌, ◌≤◌, ◌<◌}
-use native.Mathlib.Nat.{mod-eq_of_lt, mul-add-mod_self_right, div-eq_of_lt, add-mul-div_right, add_comm}
+use Prim.Native.Nat.{ℕ, suc, ◌+◌, ◌-◌, ◌^◌, ◌≤◌, ◌<◌}
 use native.Mathlib.Omega.{arith}
 use borrow.Author.Tests.{eqb-true, lt-ltb, le-ltb, ltb-true}
 use lib.ListN.{length}
 use lib.Dec.{eqb, ltb}
-use Rattle.lists.specs.Search.{list_of}
 use Rattle.lists.specs.Sums.{sum_below, bit}
 use Rattle.lists.proofs.BoolLaws.{by_bool}
-use Rattle.lists.proofs.SearchLaws.{both, every-at, every-all, list_of-length, list_of-at}
+use Rattle.lists.proofs.SearchLaws.{both, every-at, every-all}
 use Rattle.lists.proofs.SumLaws.{sum_by, sum-stays}
 use Rattle.table.specs.Sizes.{is_size, dimension, distances}
-use Rattle.table.specs.Wiring.{wiring_cube, end_distance}
-use Rattle.table.specs.Table.{head, stride, table_length, line_start, cell, status_column, next_column, finished_column, tests_column}
-use Rattle.table.specs.Table.{told_by_column, rounds_ago_column, status, status_told, next_distance, finished, tests_made, told_by, told_by_none}
+use Rattle.table.specs.Wiring.{wiring_cube}
+use Rattle.table.specs.Table.{head, stride, cell, status_column, next_column}
+use Rattle.table.specs.Table.{told_by_column, rounds_ago_column, status, status_told, next_distance, finished, told_by, told_by_none}
 use Rattle.table.specs.Table.{not_recorded, rounds_ago, suspects, live}
-use Rattle.table.specs.Rules.{exit_rule, wired_line_rules}
+use Rattle.table.specs.Rules.{exit_rule}
 use Rattle.table.specs.Properties.{line_at_start, at_start, live_count, no_live_suspicion, none_suspected}
 use Rattle.table.proofs.Accepting.{Accepted, accepted}
-use Rattle.table.proofs.CellLaws.{line-inside, Line, line-holds, accepted-line}
-use Rattle.table.proofs.SizeLaws.{distances-pos}
+use Rattle.table.proofs.CellLaws.{Line, accepted-line}
 use Rattle.plant.specs.Entry.{State, state_of}
-use Rattle.plant.proofs.RulesKept.{unfinished-open}
 use Rattle.plant.proofs.RunLaws.{accepted-number}
 use Rattle.detection.specs.Runs.{taken_all}
 use Rattle.detection.specs.Rounds.{all_taken}

@@ -3,7 +3,7 @@
 -- Assumes nothing.
 use mathlib.Core.Path.{◌≡◌, refl, sym, ap, ◌∙◌}
 use mathlib.Core.Logic.{◌≢◌, by_cases}
-use mathlib.Core.Bool.{Bool, true, false, cond, not, ◌&&◌, ◌||◌, true≢false}
+use mathlib.Core.Bool.{Bool, true, false, cond, not, ◌&&◌, ◌||◌}
 use mathlib.Core.List.{List}
 use Prim.Native.Nat.{ℕ, ◌+◌, max, ◌≤◌, ◌<◌}
 use native.Mathlib.Decide.{dec_lt, ℕ_discrete}
@@ -80,7 +80,7 @@ module _ (w n : ℕ) (L : ℕ → Bool) (t : List ℕ) (i : ℕ) (size : is_size
         let lines₁ =
         count_test-lines w n t i p.lines hi m o (omega (arith, going)) (next_test-low w n t i) (test_below w n t i e) in
         (same_rows w n L t t₁ lines₁
-          (λ k c h counts _. count_test-other n t i w m o k c h (λ _. (λ e. counts (omega arith), λ e. counts (omega arith)))) p).0
+        (λ k c h counts _. count_test-other n t i w m o k c h (λ _. (λ e. counts (omega arith), λ e. counts (omega arith)))) p).0
 
     -- what the turn does to the rows
     after-is : after_outcome n t₁ i x o ≡ cond (L x) (exchange_rows n t₁ i x) (suspect n t₁ i x)
@@ -167,7 +167,7 @@ module _ (n N : ℕ) (L : ℕ → Bool) (low : n ≤ N) (absent : (k : ℕ) → 
     due-same m h =
         due-first (row N u i) i m
         ∙ (rw (long, Long, lt-ltb (station_at i m) n h, lt-ltb (station_at i m) N (omega arith))
-          (leads-same (unsuspected (row N u i)) (unsuspected (row n t i)) i m (λ k l. same_row _))
+        (leads-same (unsuspected (row N u i)) (unsuspected (row n t i)) i m (λ k l. same_row _))
         ∙ sym (due-first (row n t i) i m))
 
     pub due-none : (m : ℕ) → ¬ (station_at i m < n) → due (row n t i) i m ≡ false

@@ -10,24 +10,21 @@ use native.Mathlib.Nat.{mod-eq_of_lt}
 use native.Mathlib.Omega.{arith}
 use borrow.Author.Tests.{eq-eqb, ne_eqb}
 use lib.Dec.{eqb}
-use lib.ListN.{length}
 use Rattle.lists.specs.Sums.{sum_below, bit}
 use Rattle.lists.proofs.BoolLaws.{by_bool}
-use Rattle.lists.proofs.SearchLaws.{every-all, list_of-length}
+use Rattle.lists.proofs.SearchLaws.{every-all}
 use Rattle.lists.proofs.SumLaws.{sum_by, sum-not, sum-single}
 use Rattle.table.specs.Sizes.{is_size}
 use Rattle.table.specs.Wiring.{wiring_ring}
-use Rattle.table.specs.Table.{head, stride, table_length, cell, status_column, next_column, finished_column, tests_column, told_by_column}
-use Rattle.table.specs.Table.{told_by_none, rounds_ago_column, status, next_distance, finished, tests_made, suspects, live}
-use Rattle.table.specs.Rules.{exit_rule, wired_line_rules, not_live}
-use Rattle.table.specs.Properties.{line_at_start, at_start, live_count, no_live_suspicion, none_suspected}
+use Rattle.table.specs.Table.{head, stride, cell, status_column, next_column, told_by_column}
+use Rattle.table.specs.Table.{told_by_none, rounds_ago_column, status, suspects, live}
+use Rattle.table.specs.Rules.{exit_rule, not_live}
+use Rattle.table.specs.Properties.{at_start, live_count, no_live_suspicion, none_suspected}
 use Rattle.table.proofs.Accepting.{Accepted}
-use Rattle.table.proofs.CellLaws.{Line, line-holds}
+use Rattle.table.proofs.CellLaws.{Line}
 use Rattle.table.proofs.SizeLaws.{size-bounds}
-use Rattle.table.proofs.WiringLaws.{end-pos}
 use Rattle.station.proofs.WiredLaws.{place_behind}
 use Rattle.plant.specs.Entry.{State, state_of}
-use Rattle.plant.proofs.RulesKept.{unfinished-open}
 use Rattle.plant.proofs.RunLaws.{accepted-number}
 use Rattle.detection.specs.Runs.{taken_all}
 use Rattle.detection.specs.Rounds.{all_taken}

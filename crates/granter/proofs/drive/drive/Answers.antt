@@ -1,7 +1,6 @@
 -- A drive that is not refused at its start goes on, and stops.
-use Rattle.std.proofs.Common.{rules, sym, ap, ◌∙◌}
+use Rattle.std.proofs.Common.{rules, sym, ap}
 use Rattle.lists.specs.Refusal.{number_of_result}
-use Rattle.lists.proofs.RefusalLaws.{number_nonzero}
 use Rattle.plant.specs.Entry.{state_with}
 use Rattle.granter.proofs.DriveLaws.{drive-refused, drive-made}
 use Rattle.granter.proofs.drive.drive.Goals as goal

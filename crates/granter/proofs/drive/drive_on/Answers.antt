@@ -4,7 +4,7 @@ use Rattle.plant.specs.Entry.{state_with}
 use Rattle.granter.specs.Grant.{last_number}
 use Rattle.granter.specs.Drive.{stand_at, after_grants}
 use Rattle.granter.proofs.GrantLaws.{grantable}
-use Rattle.granter.proofs.DriveLaws.{driving-start, next-within, grant-ready, turn-ready, granted-below, grants-small, turned-is, turned_on}
+use Rattle.granter.proofs.DriveLaws.{driving-start, next-within, grant-ready, turn-ready, granted-below, turned-is, turned_on}
 use Rattle.granter.proofs.DriveLaws.{end-stop, drives-on, full-stop}
 use Rattle.granter.proofs.drive.drive_on.Goals as goal
 use Rattle.granter.proofs.drive.drive_on.Goals.{then-is_full, else-is_full+then-ended}

@@ -1,5 +1,5 @@
 -- More bytes, or other bytes, are no number; digits are text, and `parse` reads them.
-use Rattle.std.proofs.Common.{◌≡◌, ℕ, List, Bor, sym, ap, ◌∙◌, rules, tests, arith}
+use Rattle.std.proofs.Common.{◌≡◌, ℕ, List, Bor, sym, ap, ◌∙◌, rules, tests}
 use Rattle.std.specs.Prelude.{None, Some, Result, Ok, Err, MatchResult}
 use Rattle.std.specs.Result.{result_ok}
 use Rattle.std.specs.Str.{IsUtf8}
