@@ -11,13 +11,16 @@ use lib.ListN.{length}
 use Rattle.lists.proofs.BoolLaws.{by_bool, every-same}
 use Rattle.lists.proofs.SearchLaws.{both}
 use Rattle.table.specs.Wiring.{end_distance}
-use Rattle.table.specs.Table.{head, table_length, status_column, next_column, finished_column, tests_column, told_by_column, tests_made, live, row, status_told, status_alone, status_crashed}
+use Rattle.table.specs.Table.{head, table_length, status_column, next_column, finished_column, tests_column}
+use Rattle.table.specs.Table.{told_by_column, tests_made, live, row, status_told, status_alone, status_crashed}
 use Rattle.table.specs.Rules.{not_live, some_live, finished_if_live, live_finished, round_over}
 use Rattle.table.proofs.CellLaws.{row_same, row-length}
 use Rattle.station.specs.Wired.{wired_station}
 use Rattle.station.specs.Rows.{union, mark}
 use Rattle.station.proofs.UnionLaws.{union-length, mark-length}
-use Rattle.plant.specs.Turn.{set_status, leave_told, next_test, makes_test, finish_pass, count_test, replies, is_told, exchange_rows, suspect, reply_outcome, test_outcome, after_outcome, after_test, self_or_suspected, is_alone, after_alone, outcome_at, testing, turn, turn_tested, turn_outcome, crash}
+use Rattle.plant.specs.Turn.{set_status, leave_told, next_test, makes_test, finish_pass, count_test, replies, is_told}
+use Rattle.plant.specs.Turn.{exchange_rows, suspect, reply_outcome, test_outcome, after_outcome, after_test, self_or_suspected}
+use Rattle.plant.specs.Turn.{is_alone, after_alone, outcome_at, testing, turn, turn_tested, turn_outcome, crash}
 use Rattle.station.specs.Outcome.{outcome_exchanged, outcome_told, outcome_tested_told}
 use Rattle.station.specs.Wired.{next_after}
 use Rattle.plant.specs.Entry.{Entry, is_crash, is_test, acted, tested_of, outcome_of}

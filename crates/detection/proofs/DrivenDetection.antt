@@ -29,7 +29,9 @@ use Rattle.granter.specs.Grant.{grant_refusal}
 use Rattle.granter.specs.Drive.{Stand, stand_at, granted_at, grant_turn, after_grants, ended, ended_after, stops, grants_made, outcome_after, drive}
 use Rattle.granter.proofs.GrantLaws.{Grantable, grantable}
 use Rattle.granter.proofs.DriveLaws.{Driving, not-ended, unended}
-use Rattle.detection.specs.Driven.{runs_of, runs_of_drive, RunOrDrive, a_run, a_drive, after_one, runs_of_one, after_mixed, runs_of_mixed, MixedDetection, after_drives, runs_of_drives, ending, DrivenDetectionConclusion, DrivenDetection, DrivenDetectionInSquare, DrivenDetectionAfter}
+use Rattle.detection.specs.Driven.{runs_of, runs_of_drive, RunOrDrive, a_run, a_drive, after_one, runs_of_one, after_mixed}
+use Rattle.detection.specs.Driven.{runs_of_mixed, MixedDetection, after_drives, runs_of_drives, ending}
+use Rattle.detection.specs.Driven.{DrivenDetectionConclusion, DrivenDetection, DrivenDetectionInSquare, DrivenDetectionAfter}
 use Rattle.granter.proofs.Stops.{drive-stops}
 use Rattle.detection.proofs.DriveRuns.{driving-at, drive-is-turns}
 
@@ -79,7 +81,8 @@ module _ (w : ℕ) (q : Taken → Bool) (turns : (n : ℕ) (s : State) (i : ℕ)
       (rw (drive-is-turns w n s last).left (drives-pass n (drive w n s last).state lasts))
 
 -- drives and one more
-after-one-more : (w n : ℕ) (s : State) (lasts : List ℕ) (last : ℕ) → after_drives w n s (lasts ++ (last ∷ [])) ≡ (drive w n (after_drives w n s lasts) last).state
+after-one-more : (w n : ℕ) (s : State) (lasts : List ℕ) (last : ℕ)
+    → after_drives w n s (lasts ++ (last ∷ [])) ≡ (drive w n (after_drives w n s lasts) last).state
 unfolding after_mixed
 after-one-more w n s [] last = refl
 after-one-more w n s (first ∷ lasts) last = after-one-more w n (drive w n s first).state lasts last

@@ -10,7 +10,8 @@ use borrow.Author.Tests.{ne_eqb, eq-eqb}
 use lib.Dec.{eqb}
 use lib.ListN.{length}
 use Rattle.table.specs.Sizes.{is_size}
-use Rattle.table.specs.Table.{head, stride, table_length, line_start, cell, status_column, next_column, finished_column, tests_column, told_by_column, told_by_none, rounds_ago_column, suspects, live, status}
+use Rattle.table.specs.Table.{head, stride, table_length, line_start, cell, status_column, next_column, finished_column}
+use Rattle.table.specs.Table.{tests_column, told_by_column, told_by_none, rounds_ago_column, suspects, live, status}
 use Rattle.table.specs.Rules.{exit_rule, wired_line_rules, numbered_table_refusal}
 use Rattle.table.specs.Wiring.{wiring_check}
 use Rattle.table.proofs.WiringLaws.{end-pos}
@@ -39,22 +40,32 @@ fresh-cell n i c h g =
 
 fresh-row : (n i k : ℕ) → i < n → k < n → suspects n (fresh_table n) i k ≡ 0
 fresh-row n i k g l =
-    fresh-cell n i (head + k) g (omega arith) ∙ rw (ne_eqb (head + k) next_column (λ e. omega arith), ne_eqb (head + k) told_by_column (λ e. omega arith))
+    fresh-cell n i (head + k) g (omega arith)
+    ∙ rw (ne_eqb (head + k) next_column (λ e. omega arith), ne_eqb (head + k) told_by_column (λ e. omega arith))
 
 fresh-live : (n i : ℕ) → i < n → live n (fresh_table n) i ≡ true
 fresh-live n i h = eq-eqb (status n (fresh_table n) i) 0 (fresh-cell n i status_column h (omega arith))
 
 fresh-line : (w n i : ℕ) → i < n → Line w n (fresh_table n) i
 unfolding exit_rule
-fresh-line w n i g = record {
-  status_range = omega (arith, fresh-cell n i status_column g (omega arith));
-  pass = rw (fresh-cell n i next_column g (omega arith), fresh-cell n i finished_column g (omega arith), fresh-cell n i tests_column g (omega arith))
-      (record { next_low = omega arith; next_high = end-pos w n i g; finished_range = omega arith; tests_bound = omega arith; finished_next = λ e. absurd (omega arith) });
-  exits =
-      rw (fresh-cell n i status_column g (omega arith), fresh-cell n i told_by_column g (omega arith), fresh-cell n i rounds_ago_column g (omega arith));
-  own = fresh-row n i i g g;
-  range = λ k l. omega (arith, fresh-row n i k g l);
-}
+fresh-line w n i g =
+    let status = fresh-cell n i status_column g (omega arith) in
+    let next = fresh-cell n i next_column g (omega arith) in
+    let finish = fresh-cell n i finished_column g (omega arith) in
+    let told_by = fresh-cell n i told_by_column g (omega arith) in
+    record {
+      status_range = omega (arith, status);
+      pass = rw (next, finish, fresh-cell n i tests_column g (omega arith)) (record {
+        next_low = omega arith;
+        next_high = end-pos w n i g;
+        finished_range = omega arith;
+        tests_bound = omega arith;
+        finished_next = λ e. absurd (omega arith);
+      });
+      exits = rw (status, told_by, fresh-cell n i rounds_ago_column g (omega arith));
+      own = fresh-row n i i g g;
+      range = λ k l. omega (arith, fresh-row n i k g l);
+    }
 
 module _ (n : ℕ) where
   abbrev t : List ℕ
