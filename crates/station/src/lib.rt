@@ -2,7 +2,7 @@
 // The plant run stands above this crate and relies only on what is stated here.
 //
 // The calls: groups::group_list, due::assignment, rows::row and rows::check_row. The rest is open for the crates above. No function
-// open to a caller has a `requires`. Those of `claims` do nothing: their contracts are the claims of specs/Partition.antt, specs/Nested.antt
+// open to a caller has a `requires`. Those of `claims` do nothing: their clauses are the claims of specs/Partition.antt, specs/Nested.antt
 // and specs/Ahead.antt.
 #![tactic(auto)]
 
