@@ -81,7 +81,8 @@ module _ (w n : ℕ) (t u : List ℕ) (tw : Twins n t u) (i : ℕ) (h : i < n) (
   counting : (m o : ℕ) → Step n t u (count_test w n t i m o) (count_test w n u i m o)
   unfolding count_test
   counting m o =
-      let one = write-cell n t u tw.long tw.other_long i h next_column (next_after w n m o) (next_after w n m o) (omega arith) refl (λ p. omega arith) in
+      let next : ℕ = next_after w n m o in
+      let one = write-cell n t u tw.long tw.other_long i h next_column next next (omega arith) refl (λ p. omega arith) in
       then one (write-cell n _ _ (one.long ∙ tw.long) (one.other_long ∙ tw.other_long) i h tests_column (tests_made n t i + 1) (tests_made n u i + 1)
       (omega arith) (ap (λ (x : ℕ). x + 1) (line tests_column (omega arith))) (λ p. omega arith))
 
@@ -137,7 +138,9 @@ module _ (n : ℕ) (t u : List ℕ) (tw : Twins n t u) (i j : ℕ) (h : i < n) (
 
   suspecting : Step n t u (suspect n t i j) (suspect n u i j)
   unfolding suspect
-  suspecting = rw tester (write-row n t u tw.long tw.other_long i h (mark (row n u i) j) (mark-length (row n u i) j ∙ row-length n u i tw.other_long h))
+  suspecting =
+      let long = mark-length (row n u i) j ∙ row-length n u i tw.other_long h in
+      rw tester (write-row n t u tw.long tw.other_long i h (mark (row n u i) j) long)
 
   -- by its outcome
   by-outcome : (o : ℕ) → (o ≡ outcome_exchanged → live n t j ≡ true) → Step n t u (after_outcome n t i j o) (after_outcome n u i j o)

@@ -29,6 +29,7 @@ use Rattle.table.specs.Properties.{line_at_start, at_start, live_count, no_live_
 use Rattle.detection.specs.Claim.{rounds_of, count_of, counted_from, DetectionPremises, DetectionConclusion}
 use Rattle.detection.specs.Claim.{DetectionAt, Detection, DetectionAfter, square_rounds, DetectionInSquare}
 use Rattle.detection.specs.Claim.{triangle_rounds, DetectionInTriangle, worst_latency, ring_latency, worst_rounds}
+use Rattle.detection.specs.InList.{DetectionInList}
 use Rattle.lists.proofs.BoolLaws.{by_bool}
 use Rattle.lists.proofs.SumLaws.{sum-single, sum-zero}
 use Rattle.table.specs.Wiring.{wiring_cube, wiring_ring, is_ring, wiring_check}
@@ -230,5 +231,13 @@ after-one-more s [] c = refl
 after-one-more s (b ∷ calls) c = after-one-more (after_run s b) calls c
 
 -- a claim about lists, of the last run of a list
-pub last-run : (rounds : ℕ → ℕ → ℕ) → Detection rounds → (c : Call) (before : State) → DetectionAfter rounds c before (after_run before c)
+last-run : (rounds : ℕ → ℕ → ℕ) → Detection rounds → (c : Call) (before : State) → DetectionAfter rounds c before (after_run before c)
 last-run rounds claim c before w n s calls e given = rw (after-one-more s calls c, e) at (claim w n s (calls ++ (c ∷ [])) given)
+
+-- a run promises the claim, wherever it stands in a list
+pub run-detects : (c : Call) (s : State) → DetectionInList c s (after_run s c)
+run-detects c s = record {
+  in_square = last-run square_rounds detection-in-square c s;
+  in_triangle = last-run triangle_rounds detection-in-triangle c s;
+  in_worst_case = last-run worst_rounds detection-in-worst-case c s;
+}

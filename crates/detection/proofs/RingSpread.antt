@@ -73,10 +73,10 @@ all-known n live R closed i j h hj li dj =
     let last : suc r ≡ n / 2 = omega (arith, x.1, x.2) in
     let here : at % n ≡ j = add-mod_right j n ∙ mod-eq_of_lt hj in
     let there : (x.0 + n) % n ≡ i = add-mod_right x.0 n ∙ x.3 in
-    let ahead = forward n live R (n / 2) closed p.0 at s.0 gap p.1.high s.1.low r in
-    let behind = backward n live R (n / 2) closed p.0 at s.0 gap p.1.high s.1.low r in
     let known : R (suc r) i j =
     by_cases (dec_lt (x.0 + n) (s.0 + suc r))
-    (λ l. rw (there, here) at (ahead (x.0 + n) (omega arith) lx' s.1.high (omega arith)))
-    (λ l. rw (x.3, here) at (behind x.0 (omega arith) lx p.1.low (omega (arith, p.1.high, s.1.low)))) in
+    (λ l. rw (there, here) at (forward n live R (n / 2) closed p.0 at s.0 gap p.1.high s.1.low r (x.0 + n) (omega arith) lx' s.1.high (omega arith)))
+    (λ l.
+    let back : p.0 ≤ x.0 + r = omega (arith, p.1.high, s.1.low) in
+    rw (x.3, here) at (backward n live R (n / 2) closed p.0 at s.0 gap p.1.high s.1.low r x.0 (omega arith) lx p.1.low back)) in
     subst (λ (k : ℕ). R k i j) last known

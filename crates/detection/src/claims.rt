@@ -1,6 +1,7 @@
 // What is claimed of lists of runs and of drives (specs/), each a clause of a function that does nothing.
 
-ghost use Rattle.detection.specs.Claim.{DetectionInSquare, DetectionInTriangle, Detection, square_rounds, triangle_rounds, worst_rounds, FreshIsAccepted, FreshMeetsPremises};
+ghost use Rattle.detection.specs.Claim.{DetectionInSquare, DetectionInTriangle, Detection, FreshIsAccepted, FreshMeetsPremises};
+ghost use Rattle.detection.specs.Claim.{square_rounds, triangle_rounds, worst_rounds};
 ghost use Rattle.detection.specs.Boards.{ExactRoundTests, ExactRoundTestsAfterLatency};
 ghost use Rattle.detection.specs.Driven.{DriveIsTurns, MixedDetection, DrivenDetectionInSquare, DrivenDetection};
 ghost use Rattle.detection.specs.Exits.{ReplyEnds};
