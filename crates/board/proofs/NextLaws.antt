@@ -33,9 +33,3 @@ module _ (w n i : ℕ) (l : List ℕ) where
   next-station long h below =
       station-present w (row_of n l) n i (next_of w n i l) (row_of-length n l long) h below
       (least-passes (wired_due w (row_of n l) i) (end_distance w n - next) next (omega (arith, next-low)))
-
--- after a test the next distance is greater than its distance, and the end distance at most
-pub next_after-between : (w n m o : ℕ) → m < end_distance w n → (m < next_after w n m o) × (next_after w n m o ≤ end_distance w n)
-unfolding next_after
-next_after-between w n m o h =
-    by_bool (is_ring w && eqb o outcome_exchanged) (λ e. rw e (omega (arith, end_ring w n (both _ _ e).0))) (λ e. rw e (omega arith))

@@ -3,4 +3,4 @@ use Rattle.detection.proofs.ReplyEffect.{reply-ends}
 use Rattle.detection.proofs.claims.exits.Goals as goal
 
 pub returns : goal.returns
-returns c = record { reply_ends = reply-ends }
+returns c = reply-ends
