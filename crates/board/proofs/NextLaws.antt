@@ -1,21 +1,16 @@
 -- The next test by a line, on either wiring.
 -- Assumes nothing.
 use mathlib.Core.Path.{◌≡◌}
-use mathlib.Core.Bool.{◌&&◌}
 use mathlib.Core.List.{List}
 use Prim.Native.Nat.{ℕ, ◌-◌, ◌≤◌, ◌<◌}
 use native.Mathlib.Omega.{arith}
-use lib.Dec.{eqb}
 use lib.ListN.{length, get_or}
-use Rattle.lists.proofs.BoolLaws.{by_bool}
-use Rattle.lists.proofs.SearchLaws.{both, least-between, least-passes}
+use Rattle.lists.proofs.SearchLaws.{least-between, least-passes}
 use Rattle.table.specs.Table.{stride, next_column}
-use Rattle.table.specs.Wiring.{is_ring, end_distance}
+use Rattle.table.specs.Wiring.{end_distance}
 use Rattle.table.specs.Line.{row_of}
 use Rattle.table.proofs.LineLaws.{row_of-length}
-use Rattle.table.proofs.WiringLaws.{end_ring}
-use Rattle.station.specs.Outcome.{outcome_exchanged}
-use Rattle.station.specs.Wired.{wired_station, wired_due, next_after}
+use Rattle.station.specs.Wired.{wired_station, wired_due}
 use Rattle.station.proofs.WiredLaws.{station-present}
 use Rattle.board.specs.Board.{next_of}
 
