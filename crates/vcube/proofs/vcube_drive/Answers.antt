@@ -8,9 +8,9 @@ use Rattle.vcube.proofs.vcube_drive.Goals as goal
 pub returns-clause-detection : goal.returns-clause-detection
 returns-clause-detection c =
     let before = state_of c.args.table.now c.args.rounds.now c.args.tests.now in
-    rw (← c.drive.ensures.outcome) at (drive-detects c.args.wiring c.args.n before c.args.last.now)
+    rw (← c.drive-driven.ensures.outcome) at (drive-detects c.args.wiring c.args.n before c.args.last.now)
 
 pub returns-clause-accurate : goal.returns-clause-accurate
 returns-clause-accurate c =
     let before = state_of c.args.table.now c.args.rounds.now c.args.tests.now in
-    rw (← c.drive.ensures.outcome) at (last-accurate (a_drive c.args.wiring c.args.n c.args.last.now) before)
+    rw (← c.drive-driven.ensures.outcome) at (last-accurate (a_drive c.args.wiring c.args.n c.args.last.now) before)
