@@ -10,8 +10,8 @@
  *             set_outputs(vcube_node_outputs_on(&node, cable.now(cable.context)));
  *         }
  *
- * Where `send` may be slow or stop, let a timer set the outputs: vcube_node_outputs_on only reads. A step handles a bounded number of frames, and
- * where frames come faster than it handles them, no time-out is judged until all that had come are handled.
+ * Where `send` may be slow, let a timer set the outputs: vcube_node_outputs_on only reads. A step handles a bounded number of frames, and where
+ * frames come faster than it handles them, no time-out is judged until all that had come are handled.
  *
  * What holds: only the bus master's numbered entries are in force (docs/RULES.md, "Entries in force"). Entry e is the e-th of the master's table;
  * the turn that is open has number e + 1. A board makes its turn on a copy of its line, and the copy becomes its line once the master's note says
@@ -93,7 +93,7 @@ enum vcube_frame_kind {
 /* What the maker gives. Times are milliseconds of a clock that goes on after 4,294,967,295 with 0. */
 struct vcube_cable {
     void *context;
-    /* Hands a frame over for sending, and does not wait. */
+    /* Hands a frame over for sending, and does not wait. A frame for which there is no room may be dropped: then it is a lost one. */
     void (*send)(void *context, const struct vcube_frame *frame);
     /* The next frame that has come, in the order in which they came; waits for one until the moment `until` at most, and gives false if none came. A
      * moment that is over means: do not wait. What has come already is given in any case. It may return earlier than at `until` with false. */
@@ -113,8 +113,8 @@ struct vcube_times {
     uint32_t probe;                     /* the master waits so long for those that answer its probe, from when it has gone out */
 };
 
-/* For a cable on which a frame takes up to a millisecond. */
-#define VCUBE_TIMES_USUAL {20, 5, 50, 10}
+/* For up to 64 boards on a cable of 1 Mbit/s, on which a frame takes up to 0.16 ms. docs/BOARDS.md says what each time has to cover. */
+#define VCUBE_TIMES_USUAL {20, 5, 50, 20}
 
 /* ---- A board ---- */
 

@@ -144,6 +144,10 @@ static struct vcube_fault first_fault;
 static bool has_lied;
 static bool has_replied_dead;
 
+/* The last probe that was on the cable, and the answers to it. */
+static uint8_t last_probe;
+static unsigned answers;
+
 /* Counts over all runs. */
 static struct {
     unsigned long runs, entries, records, frames, asks, lates, crashes, lefts, faults, behind, killed, stopped, again, masters, outages, known,
@@ -305,6 +309,18 @@ static void deliver(uint64_t moment, size_t to, const struct vcube_frame *frame)
         push_event(moment + below(3 * MILLISECOND), to, frame);
 }
 
+/* Counts the answers to a probe. */
+static void note_answer(const struct vcube_frame *frame)
+{
+    const uint32_t kind = VCUBE_FRAME_KIND(frame->identifier);
+
+    if (kind == VCUBE_FRAME_PROBE && frame->data[0] != last_probe) {
+        last_probe = frame->data[0];
+        answers = 0;
+    }
+    answers += kind == VCUBE_FRAME_HERE && frame->data[0] == last_probe;
+}
+
 /* The cable is free: the next frame goes to all others. */
 static void use_cable(void)
 {
@@ -321,6 +337,7 @@ static void use_cable(void)
     memmove(&waiting[first], &waiting[first + 1], (waiting_count - first) * sizeof waiting[0]);
     memmove(&waiting_from[first], &waiting_from[first + 1], (waiting_count - first) * sizeof waiting_from[0]);
     counts.frames++;
+    note_answer(&frame);
     cable_free = clock_now + FRAME_TIME;
     if (scene.is_lost_at_all && with_chance(scene.loss))
         return;
@@ -1412,7 +1429,7 @@ static void try_silence(void)
 {
     start_master();
     bench.is_stuck = true;
-    step_master(55);
+    step_master(65);
     need(bench.silences == 0, "no silence before G and P");
     step_master(10);
     need(bench.silences == 1, "a grant that does not go out for G and P is told as silence");
@@ -1426,7 +1443,7 @@ static void try_silence(void)
     bench.is_stuck = true;
     step_master(30);
     come_alone(2, 0, VCUBE_FRAME_ASK, 0, 0, NULL);
-    step_master(55);
+    step_master(65);
     need(bench.silences == 0, "no silence while a board is heard");
     step_master(10);
     need(bench.silences == 1, "silence G and P after a board was heard");
@@ -1446,7 +1463,7 @@ static void try_probe(void)
     need(count_out(VCUBE_FRAME_PROBE) == 1, "a probe after G");
     step_master(14);
     bench.is_stuck = false;
-    step_master(8);
+    step_master(18);
     come_alone(2, 0, VCUBE_FRAME_HERE, 1, sizeof here, here);
     step_master(1);
     need(bench.entries == 0 && bench.silences == 0, "the time of a probe runs from when it has gone out");
@@ -1675,6 +1692,39 @@ static void try_cases(void)
     try_saved();
 }
 
+/* Of 64 boards one dies, and 29 others start again just before the master probes: they ask for their lines, whose frames win the cable. The answers
+ * of all others come within P, and the dead board is entered as crashed. */
+static void try_largest(size_t wiring)
+{
+    const size_t dead = 5;
+    unsigned expected = 0;
+
+    memset(&scene, 0, sizeof scene);
+    scene.wiring = wiring;
+    scene.n = MOST_BOARDS;
+    scene.is_by_kind = true;
+    scene.early = scene.n;
+    scene.liar = scene.n;
+    scene.undead = scene.n;
+    plan_count = 0;
+    begin_run();
+    parts[dead].is_killed = true;
+    while (master.granted != dead || !master.is_grant_out || (int32_t)(master.end - moment_now()) > 8)
+        run_until(clock_now + MILLISECOND);
+    for (size_t k = dead + 1; k < scene.n; k += 2) {
+        parts[k].was_stopped = true;
+        start_part(&parts[k]);
+    }
+    while (master.phase != VCUBE_MASTER_PROBING)
+        run_until(clock_now + MILLISECOND);
+    for (size_t k = 0; k < scene.n; k++)
+        expected += !has_killed(k) && nodes[k].has_line;
+    while (master.phase == VCUBE_MASTER_PROBING)
+        run_until(clock_now + MILLISECOND / 10);
+    need(expected > 32 && answers >= expected, "of 64 boards all answer a probe within P");
+    need(entries[made].kind == VCUBE_KIND_CRASH && entries[made].station == dead, "the dead one of 64 boards is entered as crashed");
+}
+
 /* What many runs have to come to, in a hundred runs: else something is not tried any more. */
 static void compare_counts(void)
 {
@@ -1712,6 +1762,8 @@ int main(int count, char **words)
     const uint64_t runs = count > 2 ? strtoull(words[2], NULL, 10) : 400;
 
     try_cases();
+    try_largest(VCUBE_WIRING_CUBE);
+    try_largest(VCUBE_WIRING_RING);
     for (uint64_t seed = first; seed < first + runs; seed++) {
         choose(seed);
         make_run();

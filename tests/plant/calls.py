@@ -1,5 +1,6 @@
 """Calls of ./plant: its arguments, and how it ends."""
 
+import concurrent.futures
 import os
 import re
 import signal
@@ -37,14 +38,13 @@ WRONG = [
     # A folder that was kept before: the bus master begins anew.
     ('4 --reply 600ms --rounds 9 --brief --keep $TMPDIR/kept >/dev/null && ./plant 4 --reply 600ms --rounds 1 --restart 0.001s --brief '
      '--keep $TMPDIR/kept && rm -r $TMPDIR/kept', 0, re.compile(r'(?s).*\b[1-5] rounds? closed, \d+ entries; live: 0, 1, 2 and 3\n'), ''),
-    ('4 --reply 1ms --seconds 3 --stop 1@0.5s+1s', 0, re.compile(r'(?s).*could not run for .* take a longer --reply\n.*'), ''),
     ('2 --reply 600ms --board 1=false', 1, '', 'plant: board 1 does not start\n'),
     ('2 --reply 600ms --record /nothing/there', 1, '',
      'master: /nothing/there: No such file or directory\nplant: the master ended by itself, with status 1\n'),
 ]
 
 
-ENDS = ('Ctrl-C', 'the terminal ends', 'SIGHUP', 'SIGTERM', 'a board ends')
+ENDS = ('Ctrl-C', 'the terminal ends', 'SIGHUP', 'SIGTERM', 'a board ends', 'a board is stopped by others')
 
 
 def wrong_call(plant, row, members, folder):
@@ -70,7 +70,8 @@ def none_left(what, session, members):
 
 
 def ended(plant, how, members, folder):
-    """A plant that runs without an end: by Ctrl-C and by the end of the terminal, which go to all processes; by a kill; by the death of a board."""
+    """A plant that runs without an end: by Ctrl-C and by the end of the terminal, which go to all processes; by a kill; by the death of a board. One
+    of whose boards the computer does not let run says so first."""
     process = subprocess.Popen([plant, '4', '--reply', '600ms'], env={**os.environ, 'TMPDIR': folder}, stdin=subprocess.DEVNULL,
                                stdout=subprocess.PIPE, stderr=subprocess.PIPE, start_new_session=True)
     process.stdout.readline()
@@ -85,8 +86,13 @@ def ended(plant, how, members, folder):
     elif how == 'SIGKILL':
         process.kill()
     else:
-        boards = [pid for pid in members(process.pid) if command_of(pid)[-6:-4] == ['4', '2']]
-        os.kill(boards[0], signal.SIGKILL)
+        board = next(pid for pid in members(process.pid) if command_of(pid)[-6:-4] == ['4', '2'])
+        os.kill(board, signal.SIGKILL if how == 'a board ends' else signal.SIGSTOP)
+    if how == 'a board is stopped by others':
+        time.sleep(0.3)
+        os.kill(board, signal.SIGCONT)
+        time.sleep(0.5)
+        process.terminate()
     try:
         out, err = (piece.decode() for piece in process.communicate(timeout=60))
     except subprocess.TimeoutExpired:
@@ -99,6 +105,8 @@ def ended(plant, how, members, folder):
         yield f'{how}: status {process.returncode}, not {status}: {err}'
     if status == 0 and not re.search(r'rounds? closed, \d+ entr(y|ies); live: 0, 1, 2 and 3\n$', out):
         yield f'{how}: it ends with {out[-100:]!r}'
+    if how == 'a board is stopped by others' and not re.search(r'board 2 could not run for \d+ ms\. .* take a longer --reply\n', out):
+        yield f'{how}: it does not say so: {out[-400:]!r}'
     if how == 'a board ends' and err != 'plant: board 2 ended by itself, with status -9\n':
         yield f'{how}: it says {err!r}'
     yield from none_left(how, process.pid, members)
@@ -109,15 +117,57 @@ def command_of(pid):
         return [word.decode() for word in file.read().split(b'\0')[:-1]]
 
 
+def entries_saved(file):
+    """How many, by the head of what the bus master saved."""
+    if not os.path.exists(file):
+        return 0
+    with open(file, 'rb') as saved:
+        return int.from_bytes(saved.read(8)[4:], 'big')
+
+
+def read_late(made, folder):
+    """A bus master whose output nobody reads for a while waits, and writes whole lines, also if it is told to end meanwhile: just the entries that it
+    saved are printed."""
+    saved, processes = os.path.join(folder, 'read-late'), []
+
+    def begin(name, *words):
+        processes.append(subprocess.Popen([os.path.join(made, name), *words], stdin=subprocess.DEVNULL, stdout=subprocess.PIPE))
+        return processes[-1]
+
+    try:
+        cable = f'udp:{begin("hub").stdout.readline().decode().strip()}'
+        for k in range(8):
+            begin('board', cable, 'cube', '8', str(k), '--reply', '600').stdout.readline()
+        master = begin('master', cable, 'cube', '8', '--reply', '600', '--save', saved)
+        before, until = -1, time.monotonic() + 30
+        while (before == 0 or before != entries_saved(saved)) and time.monotonic() < until:
+            before = entries_saved(saved)
+            time.sleep(0.5)
+        master.terminate()
+        time.sleep(0.2)
+        lines = master.communicate(timeout=30)[0].decode().split('\n')
+        entries = [line.split(' ') for line in lines if ' entry ' in line]
+        if [fields[2] for fields in entries] != [str(number + 1) for number in range(entries_saved(saved))]:
+            yield f'of {entries_saved(saved)} entries the bus master prints {len(entries)}'
+        for fields in entries:
+            if len(fields) != 15 or len(fields[-1]) != 2 * 8 * (8 + 6):
+                yield f'the bus master prints a line that is not whole: {" ".join(fields)}'
+        os.remove(saved)
+    finally:
+        for process in processes:
+            process.kill()
+            process.communicate()
+
+
 def check(plant, members):
     """How many calls there are, and what is wrong."""
     wrong = []
-    with tempfile.TemporaryDirectory() as folder:
-        for row in WRONG:
-            wrong += wrong_call(plant, row, members, folder)
-        for how in ENDS:
-            wrong += ended(plant, how, members, folder)
+    with tempfile.TemporaryDirectory() as folder, concurrent.futures.ThreadPoolExecutor(3) as pool:
+        for its in [*pool.map(lambda row: list(wrong_call(plant, row, members, folder)), WRONG),
+                    *pool.map(lambda how: list(ended(plant, how, members, folder)), ENDS)]:
+            wrong += its
+        wrong += read_late(os.environ['VCUBE_PLANT'], folder)
         if os.listdir(folder):
             wrong.append(f'files are left: {os.listdir(folder)}')
         wrong += ended(plant, 'SIGKILL', members, folder)
-    return len(WRONG) + len(ENDS) + 1, wrong
+    return len(WRONG) + len(ENDS) + 2, wrong

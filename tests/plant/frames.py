@@ -34,9 +34,12 @@ def lengths(n):
     return {kind: length(name, n) for name, kind in KINDS.items()}
 
 
+def identifier(kind, sender, receiver, number):
+    return kind << 24 | sender << 18 | receiver << 12 | number & 0xfff
+
+
 def frame(kind, sender, receiver, number, data):
-    identifier = kind << 24 | sender << 18 | receiver << 12 | number & 0xfff
-    return identifier.to_bytes(4, 'big') + bytes([len(data)]) + data
+    return identifier(kind, sender, receiver, number).to_bytes(4, 'big') + bytes([len(data)]) + data
 
 
 def data_of(drawn, name, n, number):

@@ -14,6 +14,7 @@ TURN, LATE_TURN, CRASH = 1, 2, 3
 LETTERS = {TURN: 'T', LATE_TURN: 'L', CRASH: 'C'}
 MOST_RECORDED = 4096
 NOT_LIVE = 5  # the kind of the fault
+ENDS = ('FINISHED', 'EXCHANGE', 'LEFT', 'NO_REPLY', None, 'TOLD')  # by which a turn ends, by outcome; none ends with outcome 4
 
 
 @dataclasses.dataclass
@@ -243,18 +244,28 @@ def late_boards(run):
 
 
 def read_frames(folder):
-    """The kind and length of each frame that went over the cable."""
+    """The identifier and length of each frame that went over the cable."""
     with open(os.path.join(folder, 'frames.log'), encoding='ascii') as file:
         rows = [line.split() for line in file]
-    return [(int(identifier, 16) >> 24, int(length)) for _, _, identifier, length in rows]
+    return [(int(identifier, 16), int(length)) for _, _, identifier, length in rows]
 
 
 def frames_have_their_length(run):
     """Each frame on the cable is of a kind and length that node.h says."""
     right = frames.lengths(run.n)
-    for kind, length in sorted(set(run.frames)):
+    for kind, length in sorted({(identifier >> 24, length) for identifier, length in run.frames}):
         if right.get(kind) != length:
             yield f'a frame of kind {kind} has {length} bytes, and by node.h {right.get(kind)}'
+
+
+def entries_are_ends(run):
+    """A turn is entered with an outcome only if its board sent an end of that turn that says so."""
+    sent = {identifier for identifier, _ in run.frames}
+    for entry in run.entries:
+        if entry.kind != CRASH:
+            tested = 0 if entry.tested == NOBODY else entry.tested
+            if frames.identifier(frames.KINDS[ENDS[entry.outcome]], entry.station, tested, entry.number) not in sent:
+                yield f'entry {entry.number}: board {entry.station} sent no end of that turn with outcome {entry.outcome}'
 
 
 def nothing_is_late_without_cause(run):
@@ -356,7 +367,7 @@ def known_in_milliseconds(run, known):
         return
     start = run.entries[0].at
     took = first.at - start - max(run.killed.values())
-    crash = 2 * run.reply + 10 + run.reply // 2
+    crash = 3 * run.reply + 10  # G + P
     most = run.states[crashes[-1].number].wait[2] * run.reply + len(crashes) * crash
     known.milliseconds, known.most_milliseconds = took, most
     wait = run.states[crashes[-1].number].wait

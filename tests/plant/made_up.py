@@ -32,7 +32,16 @@ def sound(simulator, late):
     outputs = {k: ['on'] if states[-1].table[k * length] == logs.LIVE else ['on', 'off'] for k in range(n)}
     killed = {} if late else {KILLED: 5}
     return logs.Run(n, wiring, 50, killed, {LATE} if late else set(), entries, [] if late else [(5, 'killed', str(KILLED))], boards, outputs, states,
-                    logs.recording(n, entries), list(frames.lengths(n).items()))
+                    logs.recording(n, entries), [*((kind << 24, length) for kind, length in frames.lengths(n).items()), *ends(n, entries)])
+
+
+def ends(n, entries):
+    """The frames by which the turns ended."""
+    for it in entries:
+        if it.kind != logs.CRASH:
+            kind = logs.ENDS[it.outcome]
+            tested = 0 if it.tested == logs.NOBODY else it.tested
+            yield frames.identifier(frames.KINDS[kind], it.station, tested, it.number), frames.length(kind, n)
 
 
 def never_known(run, known_again):
@@ -90,8 +99,11 @@ WRONG = [
     ('an outcome beside the run program\'s', False, entry(3, outcome=9), 'recording_is_run'),
     ('a late reply that is none', True, lambda run: [entry(it.number, kind=logs.TURN)(run) for it in run.entries if it.kind == logs.LATE_TURN],
      'only_late_boards_leave'),
-    ('the kind of a frame', False, to('frames', lambda some: [*some, (max(frames.KINDS.values()) + 1, 0)]), 'frames_have_their_length'),
-    ('the length of a frame', False, to('frames', lambda some: [*some, (frames.KINDS['TEST'], 1)]), 'frames_have_their_length'),
+    ('the kind of a frame', False, to('frames', lambda some: [*some, (max(frames.KINDS.values()) + 1 << 24, 0)]), 'frames_have_their_length'),
+    ('the length of a frame', False, to('frames', lambda some: [*some, (frames.KINDS['TEST'] << 24, 1)]), 'frames_have_their_length'),
+    ('an end that was not sent', False, to('frames', lambda some: some[:-1]), 'entries_are_ends'),
+    ('a late turn entered as in time', True, lambda run: [entry(it.number, kind=logs.TURN, outcome=1)(run) for it in run.entries
+                                                          if it.kind == logs.LATE_TURN], 'entries_are_ends'),
     ('a late board that was not stopped', True, to('stopped', lambda _: set()), 'nothing_is_late_without_cause'),
     ('a crash before the kill', False, to('others', lambda _: [(10 ** 6, 'killed', str(KILLED))]), 'nothing_is_late_without_cause'),
     ('a crash without a kill', False, to('others', lambda _: []), 'nothing_is_late_without_cause'),

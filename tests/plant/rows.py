@@ -121,7 +121,7 @@ ROWS = [
     *(Row(f'6 on the cube, ends of turns {ms} ms after the grant', 6, ('--hold', f'3:{ms}ms', '--rounds', '2'), reply=100, may_crash=frozenset([3]),
           long=True) for ms in range(196, 226, 3)),
     *(Row(f'6 on the cube, stopped before the end of turn {turn} for {ms} ms', 6, ('--rounds', '6'), boards={2: f'--pause {turn}:{ms}'}, reply=100,
-          may_crash=frozenset([2]), long=True) for turn in range(1, 6) for ms in (150, 215, 250, 256, 259, 261, 265, 400)),
+          may_crash=frozenset([2]), long=True) for turn in range(1, 6) for ms in (150, 215, 260, 306, 309, 311, 315, 400)),
     *(Row(f'8 on the {"ring" if ring else "cube"}, {loss} % of the frames lost', 8,
           ('--loss', f'{loss}%', '--kill', '3@1s', '--seed', f'{loss}', '--seconds', '20'), ring=ring, reply=100, is_lossy=True,
           is_rough=loss > 5, long=True)

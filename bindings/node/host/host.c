@@ -43,6 +43,8 @@ void host_signals(void)
 
     memset(&action, 0, sizeof action);
     action.sa_handler = on_signal;
+    /* A line that is being printed is printed whole; ppoll is interrupted all the same. */
+    action.sa_flags = SA_RESTART;
     sigaction(SIGTERM, &action, NULL);
     signal(SIGINT, SIG_IGN);
     signal(SIGHUP, SIG_IGN);
@@ -74,7 +76,7 @@ struct vcube_times host_times(uint32_t reply)
     times.reply = reply;
     times.repeat = reply / 4 > 0 ? reply / 4 : 1;
     times.grant = 2 * reply + 10;
-    times.probe = reply / 2 > 0 ? reply / 2 : 1;
+    times.probe = reply;
     return times;
 }
 

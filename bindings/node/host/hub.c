@@ -294,6 +294,7 @@ int main(int count, char **words)
 
     prctl(PR_SET_PDEATHSIG, SIGKILL);
     action.sa_handler = on_signal;
+    action.sa_flags = SA_RESTART;
     sigaction(SIGUSR1, &action, NULL);
     sigaction(SIGUSR2, &action, NULL);
     sigaction(SIGTERM, &action, NULL);
