@@ -3,25 +3,24 @@
 use mathlib.Core.Path.{◌≡◌, refl, ap, ◌∙◌}
 use mathlib.Core.Bool.{true, cond}
 use mathlib.Core.List.{List}
-use Prim.Native.Nat.{ℕ, ◌+◌, ◌%◌, ◌<◌}
-use native.Mathlib.Nat.{mod-eq_of_lt, mul-add-mod_self_right, mul-one}
+use Prim.Native.Nat.{ℕ, ◌+◌, ◌<◌}
+use native.Mathlib.Nat.{mul-one}
 use native.Mathlib.Omega.{arith}
 use borrow.Author.Tests.{ne_eqb, eq-eqb}
 use lib.Dec.{eqb}
-use lib.ListN.{length}
 use Rattle.table.specs.Sizes.{is_size}
-use Rattle.table.specs.Table.{head, stride, table_length, line_start, cell, status_column, next_column, finished_column}
+use Rattle.table.specs.Table.{head, stride, cell, status_column, next_column, finished_column}
 use Rattle.table.specs.Table.{tests_column, told_by_column, told_by_none, rounds_ago_column, suspects, live, status}
 use Rattle.table.specs.Rules.{exit_rule, wired_line_rules, numbered_table_refusal}
 use Rattle.table.specs.Wiring.{wiring_check}
 use Rattle.std.specs.Prelude.{Ok}
-use Rattle.table.specs.Fresh.{fresh_byte, fresh_table}
-use Rattle.lists.proofs.SearchLaws.{every-all, list_of-length, list_of-at}
+use Rattle.table.specs.Fresh.{fresh_table}
+use Rattle.lists.proofs.SearchLaws.{every-all}
 use Rattle.lists.specs.Sums.{bit}
 use Rattle.lists.proofs.SumLaws.{sum_by, sum-const}
 use Rattle.table.proofs.SizeLaws.{size-bounds}
 use Rattle.table.proofs.FreshLaws.{fresh-length, fresh-byte, fresh-cell}
-use Rattle.table.proofs.CellLaws.{start-pass, line-inside, Line, line-holds}
+use Rattle.table.proofs.CellLaws.{start-pass, Line, line-holds}
 use Rattle.plant.proofs.RulesKept.{unfinished-open}
 use Rattle.plant.proofs.RunLaws.{accepted-number}
 use Rattle.table.specs.Properties.{line_at_start, at_start, live_count, none_suspected, no_live_suspicion}
