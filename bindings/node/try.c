@@ -1652,10 +1652,11 @@ static void try_reset(void)
     }
 }
 
-/* A step ends although frames come without end. */
+/* A step ends although frames come without end. Outputs go off by the clock alone, also while no step is made. */
 static void try_babbler(void)
 {
     start_in_step(5);
+    need(!vcube_node_outputs_on(&nodes[1], bench.now + QUIET), "outputs go off although no step is made");
     bench.has_babbler = true;
     step_board();
     bench.now += QUIET;
