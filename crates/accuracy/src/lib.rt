@@ -1,6 +1,6 @@
 // What is claimed of suspicions and exits over any list of runs and drives (specs/Accurate.antt), with any crashes and late replies, on either
 // wiring. Where first no live board suspects a live one, a live board comes to be suspected by a live one, and is told to leave, only if its own
-// reply was late. The functions of this file but the last two do nothing: their contracts are claims. The last two are the run and the drive
+// reply was late. The first two functions do nothing: their clauses are the claims. The others are the run and the drive
 // with these claims as their promise.
 #![tactic(auto)]
 
@@ -17,29 +17,22 @@ ghost use Rattle.accuracy.specs.Example.{OneOfEight, TwoOfTwo};
 use granter::Driven;
 use plant::{Ran, Tally};
 
-// Every list of runs: only the late are suspected, every exit has its cause, and what late replies cost.
-pub fn runs_accurate()
-    ensures { RunsAccurate }
+// Suspicions and exits over any list (specs/Accurate.antt).
+pub fn accuracy()
+    // Every list of runs: only the late are suspected, every exit has its cause, and what late replies cost.
+    ensures runs_accurate { RunsAccurate }
+    // The same of every list that mixes runs and drives.
+    ensures mixed_accurate { MixedAccurate }
+    // Drives have no late reply: where first no live board suspects a live one, nobody leaves because told.
+    ensures drives_tell_nobody { DrivesTellNobody }
 {}
 
-// The same of every list that mixes runs and drives.
-pub fn mixed_accurate()
-    ensures { MixedAccurate }
-{}
-
-// Drives have no late reply: where first no live board suspects a live one, nobody leaves because told.
-pub fn drives_tell_nobody()
-    ensures { DrivesTellNobody }
-{}
-
-// One late reply, followed until the board that was late has left.
-pub fn one_of_eight()
-    ensures { OneOfEight }
-{}
-
-// Of two live boards one late reply costs both.
-pub fn two_of_two()
-    ensures { TwoOfTwo }
+// Computed (specs/Example.antt).
+pub fn examples()
+    // One late reply, followed until the board that was late has left.
+    ensures one_of_eight { OneOfEight }
+    // Of two live boards one late reply costs both.
+    ensures two_of_two { TwoOfTwo }
 {}
 
 // The run, wherever it stands behind other runs and drives: what is claimed of the whole list with it holds of the table that it leaves. What

@@ -17,6 +17,7 @@ use Rattle.lists.specs.Refusal.{Check}
 use Rattle.lists.proofs.SearchLaws.{both}
 use Rattle.plant.specs.Turn.{kind_turn}
 use Rattle.plant.specs.Entry.{Entry}
+use Rattle.plant.proofs.WholeRun.{whole_run}
 use Rattle.lists.specs.Search.{every, list_of, least}
 use Rattle.lists.specs.Sums.{sum_below}
 use Rattle.lists.specs.Bytes.{joined_byte}
@@ -29,10 +30,12 @@ use Rattle.station.specs.Groups.{width, member}
 use Rattle.station.specs.Wired.{wired_station, wired_due, next_after}
 use Rattle.station.specs.Tests.{unsuspected, first_place, first, answer, due}
 use Rattle.station.specs.Rows.{union_byte, union, mark}
-use Rattle.board.specs.Board.{suspicion_of, next_of, tests, tested, next_station, pass_finished, counted, left_told, joined, suspecting, alone, after_alone, outcome_of, after_outcome, tested_at, turn_of, outcome, round_closed}
+use Rattle.board.specs.Board.{suspicion_of, next_of, tests, tested, next_station, pass_finished, counted, left_told, joined, suspecting, alone}
+use Rattle.board.specs.Board.{after_alone, outcome_of, after_outcome, tested_at, turn_of, outcome, round_closed}
 use Rattle.board.specs.Packed.{bits, packed_byte, pack, heard_byte, heard}
 use Rattle.board.specs.Calls.{line_rules, place_check, line_check, live_check, turn_check, replied_check, row_check, sent_check, exchanged_check}
-use Rattle.cable.specs.Boards.{Lines, reply_from, after_sending, after_turn, after_crash, after_act, all_finished, after_closing, after_entry, after_entries}
+use Rattle.cable.specs.Boards.{Lines, reply_from, after_sending, after_turn, after_crash, after_act, all_finished, after_closing, after_entry}
+use Rattle.cable.specs.Boards.{after_entries}
 use Rattle.board_detection.specs.Detect.{live_boards, BoardsBegin, TurnInTime, TurnsInTime, counts_by_round, count_of_tests}
 use Rattle.board_detection.specs.Example.{all_but, turns_of, cube_turns, ring_turns, FourBoards, FourOnRing}
 
@@ -66,9 +69,12 @@ below-four P a b c d (suc (suc zero)) h = c
 below-four P a b c d (suc (suc (suc zero))) h = d
 below-four P a b c d (suc (suc (suc (suc k)))) h = absurd (omega arith)
 
--- who unfolds this name unfolds all the definitions on its line, and boards on a cable compute
+-- who unfolds this name unfolds all these definitions, and boards on a cable compute
 unfoldable whole_cable : Unit {0}
-unfolding all_but turns_of all_turns live_boards count_of_tests sum_below every list_of least joined_byte end_distance fresh_byte row_of with_row is_size level dimension distances exit_rule width member wired_station wired_due next_after unsuspected first_place first answer due union_byte union mark next_of tests tested next_station pass_finished counted left_told joined suspecting alone after_alone outcome_of after_outcome tested_at turn_of outcome round_closed bits packed_byte pack heard_byte heard line_rules place_check line_check live_check turn_check replied_check row_check sent_check exchanged_check reply_from after_sending after_turn after_crash after_act all_finished after_closing after_entry after_entries counts_by_round
+unfolding whole_run all_but turns_of all_turns live_boards count_of_tests sum_below row_of with_row next_of tests tested next_station pass_finished
+    counted left_told joined suspecting alone after_alone outcome_of after_outcome tested_at turn_of outcome round_closed bits packed_byte pack
+    heard_byte heard line_rules place_check line_check live_check turn_check replied_check row_check sent_check exchanged_check reply_from
+    after_sending after_turn after_crash after_act all_finished after_closing after_entry after_entries counts_by_round
 whole_cable = tt
 
 -- four boards with fresh lines, of which one has crashed

@@ -1,6 +1,6 @@
 // What is claimed of the lines of stations that are not live (specs/Alike.antt): two valid tables with equal statuses and equal live lines give the
 // same answers and run sheets, whatever their other lines hold. The first two functions are the run and the drive themselves with this as their
-// promise. The others do nothing: their contracts are the claims, and the last a computed pair of such tables.
+// promise. The others do nothing: their clauses are the claims, and the last a computed pair of such tables.
 #![tactic(auto)]
 
 ghost use Rattle.std.specs.Prelude.{◌≡◌};
@@ -47,37 +47,24 @@ pub fn drive_whatever_dead_lines_hold(
     drive::drive(wiring, n, table, tally, last)
 }
 
-// A run answers and writes the same on alike tables, which it leaves alike.
-pub fn run_of_alike()
-    ensures { RunOfAlike }
+// On alike tables (specs/Alike.antt).
+pub fn alike()
+    // A run answers and writes the same on alike tables, which it leaves alike.
+    ensures run_of_alike { RunOfAlike }
+    // A grant answers the same station.
+    ensures grant_of_alike { GrantOfAlike }
+    // A drive answers the same, and leaves alike tables.
+    ensures drive_of_alike { DriveOfAlike }
+    // So does each run of a list.
+    ensures runs_of_alike { RunsOfAlike }
+    // So does each run and drive of a list that mixes them.
+    ensures mixed_of_alike { MixedOfAlike }
 {}
 
-// A grant answers the same station.
-pub fn grant_of_alike()
-    ensures { GrantOfAlike }
-{}
-
-// A drive answers the same, and leaves alike tables.
-pub fn drive_of_alike()
-    ensures { DriveOfAlike }
-{}
-
-// So does each run of a list.
-pub fn runs_of_alike()
-    ensures { RunsOfAlike }
-{}
-
-// So does each run and drive of a list that mixes them.
-pub fn mixed_of_alike()
-    ensures { MixedOfAlike }
-{}
-
-// Two alike tables of four stations, one dead line of which differs in every byte that may, and the same run of both.
-pub fn worked_pair()
-    ensures { WorkedPair }
-{}
-
-// With one live line different, one status different, or a table that is refused, the run can differ.
-pub fn each_is_needed()
-    ensures { EachIsNeeded }
+// Computed (specs/Pair.antt).
+pub fn examples()
+    // Two alike tables of four stations, one dead line of which differs in every byte that may, and the same run of both.
+    ensures worked_pair { WorkedPair }
+    // With one live line different, one status different, or a table that is refused, the run can differ.
+    ensures each_is_needed { EachIsNeeded }
 {}

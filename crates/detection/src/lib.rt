@@ -1,14 +1,9 @@
 // What is claimed of runs and drives wherever they stand in a list (specs/), and its proof (proofs/). The two functions here are the run and the
 // drive themselves with the detection claim as their promise, so that they rest on what plant::run::run and granter::drive::drive promise.
-// Those of the modules do nothing: their contracts are the claims, of lists of runs (`claims`), of drives (`driven`), of who leaves (`exits`), of
-// who told it and when (`ceased`), and of the tests that slots are timed by (`timing`).
+// Those of `claims` do nothing: their clauses are the claims.
 #![tactic(auto)]
 
-pub mod ceased;
 pub mod claims;
-pub mod driven;
-pub mod exits;
-pub mod timing;
 
 ghost use Rattle.std.specs.Prelude.{◌≡◌};
 ghost use Rattle.plant.specs.Entry.{state_with};

@@ -1,7 +1,7 @@
 // Figures over a batch of results: count, least, greatest, mean and variance of unsigned 16-bit numbers.
 //
 // The calls: batch::figures, batch::figures_of_two, batch::figures_of_totals, adding::totals and adding::join. None has a `requires`.
-// The functions of `claims` do nothing: their contracts are claims of fractions and figures.
+// The functions of `claims` do nothing: their clauses are claims of fractions and figures.
 #![tactic(auto)]
 
 pub mod adding;

@@ -1,6 +1,6 @@
 // The granter: which station is granted the next turn, and the drive, which repeats grant and turn. It stands above `plant`
 // and relies only on what that crate and those below it state. The calls are grant::grant and drive::drive; those of `claims`
-// do nothing: their contracts are claims of every grant and drive.
+// do nothing: their clauses are claims of every grant and drive.
 #![tactic(auto)]
 
 pub mod claims;

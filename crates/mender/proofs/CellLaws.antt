@@ -16,7 +16,8 @@ use Rattle.lists.specs.Search.{list_of}
 use Rattle.lists.proofs.SearchLaws.{list_of-at, list_of-length}
 use Rattle.table.specs.Table.{head, stride, table_length, line_start, cell, status, live, finished, rounds_ago}
 use Rattle.table.proofs.CellLaws.{line-inside}
-use Rattle.mender.specs.Mended.{mended_status, line_byte, table_of, lines_mended, keeps_pass, mended_rounds_ago, mended_suspicion, new_status, new_told_by, mended_byte}
+use Rattle.mender.specs.Mended.{mended_status, keeps_pass, mended_rounds_ago, mended_suspicion, new_status, new_told_by}
+use Rattle.mender.specs.Mended.{line_byte, table_of, lines_mended, mended_byte}
 
 pub table_of-length : (n : ℕ) (f : ℕ → ℕ → ℕ) → length (table_of n f) ≡ table_length n
 unfolding table_of
@@ -36,7 +37,7 @@ unfolding cell
 table_of-cell n f i c h hc = table_of-at n f i c h hc
 
 -- a place of the table is a column of a line
-pub place-parts : (n p : ℕ) → p < table_length n → (line_start n (p / stride n) + p % stride n ≡ p) × (p / stride n < n) × (p % stride n < stride n)
+place-parts : (n p : ℕ) → p < table_length n → (line_start n (p / stride n) + p % stride n ≡ p) × (p / stride n < n) × (p % stride n < stride n)
 unfolding table_length line_start
 place-parts n p h =
     let some : 0 < stride n = omega arith in
@@ -64,7 +65,8 @@ lines_live w n t i h = ap (λ (x : ℕ). eqb x 0) (table_of-cell n (line_byte w 
     stays s = grind (arith, nat_tests)
 
 -- it has finished its pass after mending if it had before and bytes 1 to 3 keep their rules
-pub lines_finished : (w n : ℕ) (t : List ℕ) (i : ℕ) → i < n → eqb (finished n (lines_mended w n t) i) 1 ≡ (eqb (finished n t i) 1 && keeps_pass w n t i)
+pub lines_finished : (w n : ℕ) (t : List ℕ) (i : ℕ) → i < n
+    → eqb (finished n (lines_mended w n t) i) 1 ≡ (eqb (finished n t i) 1 && keeps_pass w n t i)
 unfolding line_byte
 lines_finished w n t i h =
     ap (λ (x : ℕ). eqb x 1) (table_of-cell n (line_byte w n t) i 2 h (omega arith)) ∙ stays (keeps_pass w n t i) (finished n t i)

@@ -26,13 +26,16 @@ unfolding changes
 changes-none t =
     ap (map (change_at t t)) (select-stays (differs t t) 0 (length t) (omega arith) (λ p a b. rw (eq-eqb (get_or t p 0) (get_or t p 0) refl) refl))
 
+-- what c says of the byte at its offset is so, and the byte is another one now
+abbrev IsChange : List ℕ → List ℕ → Change → Type 0
+IsChange t u c = (get_or t c.offset 0 ≡ c.before) × (get_or u c.offset 0 ≡ c.after) × (c.before ≢ c.after)
+
 -- each listed change is one
-pub changes-true : (t u : List ℕ)
-    → All (λ c. (get_or t c.offset 0 ≡ c.before) × (get_or u c.offset 0 ≡ c.after) × (c.before ≢ c.after)) (changes t u)
+pub changes-true : (t u : List ℕ) → All (IsChange t u) (changes t u)
 unfolding changes
 changes-true t u =
-    All-map (λ c. (get_or t c.offset 0 ≡ c.before) × (get_or u c.offset 0 ≡ c.after) × (c.before ≢ c.after)) (change_at t u) (select (differs t u) (length t))
-    (All-weaker (λ p. differs t u p ≡ true) (λ p. (get_or t p 0 ≡ get_or t p 0) × (get_or u p 0 ≡ get_or u p 0) × (get_or t p 0 ≢ get_or u p 0))
+    All-map (IsChange t u) (change_at t u) (select (differs t u) (length t))
+    (All-weaker (λ p. differs t u p ≡ true) (λ p. IsChange t u (change_at t u p))
     (λ p e. (refl, refl, eqb-false (get_or t p 0) (get_or u p 0) (not-true (eqb (get_or t p 0) (get_or u p 0)) e))) (select (differs t u) (length t))
     (filter_passes (differs t u) (range_with_len 0 (length t))))
 

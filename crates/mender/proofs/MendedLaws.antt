@@ -16,11 +16,14 @@ use Rattle.lists.proofs.SearchLaws.{both, every-at, every-all}
 use Rattle.lists.proofs.BoolLaws.{by_bool, every-same}
 use Rattle.table.specs.Sizes.{is_size}
 use Rattle.table.specs.Wiring.{wiring_check, end_distance}
-use Rattle.table.specs.Table.{head, stride, table_length, cell, status, status_told, next_distance, finished, tests_made, told_by, told_by_none, rounds_ago, suspects}
-use Rattle.table.specs.Rules.{pass_rule, exit_rule, suspicion_rule, row_rule, wired_line_rules, not_live, some_live, finished_if_live, live_finished, round_over, shape_check, table_check_on, numbered_table_check}
+use Rattle.table.specs.Table.{head, stride, table_length, cell, status_told, told_by_none}
+use Rattle.table.specs.Table.{status, next_distance, finished, tests_made, told_by, rounds_ago, suspects}
+use Rattle.table.specs.Rules.{pass_rule, exit_rule, suspicion_rule, row_rule, wired_line_rules, shape_check, table_check_on, numbered_table_check}
+use Rattle.table.specs.Rules.{not_live, some_live, finished_if_live, live_finished, round_over}
 use Rattle.table.proofs.WiringLaws.{end-pos}
 use Rattle.table.proofs.Accepting.{Accepted}
-use Rattle.mender.specs.Mended.{mended_status, keeps_pass, mended_told_by, mended_rounds_ago, mended_suspicion, new_status, new_told_by, line_byte, table_of, lines_mended, mended_byte, mended}
+use Rattle.mender.specs.Mended.{mended_status, keeps_pass, mended_told_by, mended_rounds_ago, mended_suspicion, new_status, new_told_by}
+use Rattle.mender.specs.Mended.{line_byte, table_of, lines_mended, mended_byte, mended}
 use Rattle.mender.proofs.CellLaws.{table_of-length, table_of-cell, table_of-is, outside-pass, row-byte}
 
 -- whether the round is over once each line is mended
@@ -31,7 +34,7 @@ pub mended-length : (w n : ℕ) (t : List ℕ) → length (mended w n t) ≡ tab
 unfolding mended
 mended-length w n t = table_of-length n (mended_byte w n t (is_over w n t))
 
-pub mended-cell : (w n : ℕ) (t : List ℕ) (i c : ℕ) → i < n → c < stride n → cell n (mended w n t) i c ≡ mended_byte w n t (is_over w n t) i c
+mended-cell : (w n : ℕ) (t : List ℕ) (i c : ℕ) → i < n → c < stride n → cell n (mended w n t) i c ≡ mended_byte w n t (is_over w n t) i c
 unfolding mended
 mended-cell w n t i c h hc = table_of-cell n (mended_byte w n t (is_over w n t)) i c h hc
 
@@ -40,11 +43,11 @@ pub status-mended : (w n : ℕ) (t : List ℕ) (i : ℕ) → i < n → status n 
 unfolding line_byte
 status-mended w n t i h = mended-cell w n t i 0 h (omega arith) ∙ outside-pass w n t (is_over w n t) i 0 refl
 
-pub told_by-mended : (w n : ℕ) (t : List ℕ) (i : ℕ) → i < n → told_by n (mended w n t) i ≡ new_told_by n t i
+told_by-mended : (w n : ℕ) (t : List ℕ) (i : ℕ) → i < n → told_by n (mended w n t) i ≡ new_told_by n t i
 unfolding line_byte
 told_by-mended w n t i h = mended-cell w n t i 4 h (omega arith) ∙ outside-pass w n t (is_over w n t) i 4 refl
 
-pub rounds_ago-mended : (w n : ℕ) (t : List ℕ) (i : ℕ) → i < n
+rounds_ago-mended : (w n : ℕ) (t : List ℕ) (i : ℕ) → i < n
     → rounds_ago n (mended w n t) i ≡ mended_rounds_ago n i (new_status n t i) (new_told_by n t i) (rounds_ago n t i)
 unfolding line_byte
 rounds_ago-mended w n t i h = mended-cell w n t i 5 h (omega arith) ∙ outside-pass w n t (is_over w n t) i 5 refl
@@ -58,12 +61,13 @@ pub record PassMended (w n : ℕ) (t : List ℕ) (over : Bool) (next finished' t
   pub finished_is : finished' ≡ cond over 0 (cond (keeps_pass w n t i) (finished n t i) 0)
   pub tests_is : tests ≡ cond over 0 (cond (keeps_pass w n t i) (tests_made n t i) 0)
 
-pass-bytes : (w n : ℕ) (t : List ℕ) (over : Bool) (i : ℕ) → PassMended w n t over (mended_byte w n t over i 1) (mended_byte w n t over i 2) (mended_byte w n t over i 3) i
+pass-bytes : (w n : ℕ) (t : List ℕ) (over : Bool) (i : ℕ)
+    → PassMended w n t over (mended_byte w n t over i 1) (mended_byte w n t over i 2) (mended_byte w n t over i 3) i
 unfolding mended_byte line_byte
 pass-bytes w n t true i = record { next_is = refl; finished_is = refl; tests_is = refl }
 pass-bytes w n t false i = record { next_is = refl; finished_is = refl; tests_is = refl }
 
-pub pass-mended : (w n : ℕ) (t : List ℕ) (i : ℕ) → i < n
+pass-mended : (w n : ℕ) (t : List ℕ) (i : ℕ) → i < n
     → PassMended w n t (is_over w n t) (next_distance n (mended w n t) i) (finished n (mended w n t) i) (tests_made n (mended w n t) i) i
 pass-mended w n t i h =
     let b = pass-bytes w n t (is_over w n t) i in
@@ -91,7 +95,9 @@ told-right : (n i s by : ℕ) → exit_rule n i s (mended_told_by n i s by) 0 �
 unfolding exit_rule
 told-right n i s by =
     by_bool (exit_rule n i s by 0) (λ e. rw e e)
-    (λ e. rw e (by_bool (eqb s 0) (λ z. let live : s ≡ 0 = eqb-true s 0 z in rw live refl) (λ z. by_bool (eqb s status_told) (λ d. rw (z, d) refl) (λ d. rw (z, d) refl))))
+    (λ e.
+    rw e (by_bool (eqb s 0) (λ z. let live : s ≡ 0 = eqb-true s 0 z in rw live refl)
+    (λ z. by_bool (eqb s status_told) (λ d. rw (z, d) refl) (λ d. rw (z, d) refl))))
 
 rounds-right : (n i s by ago : ℕ) → exit_rule n i s by 0 ≡ true → exit_rule n i s by (mended_rounds_ago n i s by ago) ≡ true
 rounds-right n i s by ago z = by_bool (exit_rule n i s by ago) (λ e. rw e e) (λ e. rw e z)
@@ -114,12 +120,12 @@ line-right w n t i h =
     (rounds-right n i (new_status n t i) (new_told_by n t i) (rounds_ago n t i) (told-right n i (new_status n t i) (told_by n t i))) in
     let own : suspects n u i i ≡ 0 = suspects-mended w n t i i h h ∙ own-right i (suspects n t i i) in
     let kept : leb (status n u i) 3 ≡ true = rw (status-mended w n t i h) (status-right (status n t i)) in
-    let pass = pass-right w n t i (is_over w n t) (next_distance n u i) (finished n u i) (tests_made n u i) (end-pos w n i h) (pass-mended w n t i h) in
+    let pass = pass-right w n t i (is_over w n t) _ _ _ (end-pos w n i h) (pass-mended w n t i h) in
     rw (kept, pass, exits, own)
     (every-all (suspicion_rule n u i) n (λ k hk. rw (suspects-mended w n t i k h hk) (row-right i k (suspects n t i k))))
 
 -- with no restart the table is that of the mended lines
-pub no-restart : (w n : ℕ) (t : List ℕ) → is_over w n t ≡ false → mended w n t ≡ lines_mended w n t
+no-restart : (w n : ℕ) (t : List ℕ) → is_over w n t ≡ false → mended w n t ≡ lines_mended w n t
 unfolding mended table_of mended_byte
 no-restart w n t e = rw e refl
 
@@ -137,7 +143,7 @@ restarted n u none =
     or-false true = refl
     or-false false = refl
 
-pub mended-open : (w n : ℕ) (t : List ℕ) → round_over n (mended w n t) ≡ false
+mended-open : (w n : ℕ) (t : List ℕ) → round_over n (mended w n t) ≡ false
 mended-open w n t =
     by_bool (is_over w n t)
     (λ e. restarted n (mended w n t) (λ i h. (pass-mended w n t i h).finished_is ∙ rw e refl))
@@ -157,7 +163,9 @@ mended-passes w n t wired size =
 -- a line that keeps its rules
 exit-zero : (n i s by ago : ℕ) → exit_rule n i s by ago ≡ true → exit_rule n i s by 0 ≡ true
 unfolding exit_rule
-exit-zero n i s by ago e = by_bool (eqb s 0) (λ z. rw z (let a = both (eqb by told_by_none) (eqb ago 0) (rw z at e) in rw a.0 refl)) (λ z. rw z (rw z at e))
+exit-zero n i s by ago e =
+    by_bool (eqb s 0) (λ z. rw z (let a = both (eqb by told_by_none) (eqb ago 0) (rw z at e) in rw a.0 refl))
+    (λ z. rw z (rw z at e))
 
 good-byte : (w n : ℕ) (t : List ℕ) (i c : ℕ) → wired_line_rules w n t i ≡ true → i < n → c < stride n → line_byte w n t i c ≡ cell n t i c
 unfolding line_byte wired_line_rules row_rule
@@ -182,15 +190,18 @@ good-byte w n t i c e h hc =
         let k = c - head in
         let here : head + k ≡ c = omega arith in
         let kept = every-at (suspicion_rule n t i) n k r.1 (omega arith) in
-        ap (λ (x : ℕ). mended_suspicion i k (cell n t i x)) (sym here) ∙ stays k (eqb-true (suspects n t i i) 0 r.0) (leb-true (suspects n t i k) 1 kept)
+        ap (λ (x : ℕ). mended_suspicion i k (cell n t i x)) (sym here)
+        ∙ stays k (eqb-true (suspects n t i i) 0 r.0) (leb-true (suspects n t i k) 1 kept)
         ∙ ap (cell n t i) here
       where
         stays : (k : ℕ) → suspects n t i i ≡ 0 → suspects n t i k ≤ 1 → mended_suspicion i k (suspects n t i k) ≡ suspects n t i k
         stays k own low =
             by_bool (eqb k i) (λ e. rw e (sym (ap (suspects n t i) (eqb-true k i e) ∙ own))) (λ e. rw (e, le-ltb 1 (suspects n t i k) low) refl)
 
-pub good-lines : (w n : ℕ) (t : List ℕ) → Accepted w n t → lines_mended w n t ≡ t
-good-lines w n t a = table_of-is n (line_byte w n t) t a.long (λ i c h hc. good-byte w n t i c (every-at (wired_line_rules w n t) n i a.lines h) h hc)
+good-lines : (w n : ℕ) (t : List ℕ) → Accepted w n t → lines_mended w n t ≡ t
+good-lines w n t a =
+    table_of-is n (line_byte w n t) t a.long
+    (λ i c h hc. good-byte w n t i c (every-at (wired_line_rules w n t) n i a.lines h) h hc)
 
 pub good-stays : (w n : ℕ) (t : List ℕ) → Accepted w n t → mended w n t ≡ t
 good-stays w n t a =

@@ -21,6 +21,7 @@ use Rattle.lists.proofs.Writing.{sets-ahead, sets-all}
 use Rattle.lists.proofs.SearchLaws.{both, every-at, list_of-length, list_of-at}
 use Rattle.lists.proofs.BoolLaws.{by_bool}
 use Rattle.lists.proofs.FilterLaws.{select-suc}
+use Rattle.table.specs.declared.lent.Table.{Table}
 use Rattle.table.specs.Sizes.{is_size}
 use Rattle.table.specs.Table.{head, stride, table_length, line_start, cell}
 use Rattle.table.specs.Rules.{suspicion_rule, row_rule}
@@ -30,7 +31,7 @@ use Rattle.mender.specs.Report.{differs, change_at, changes, change_bytes}
 use Rattle.mender.specs.declared.mending.Mending.{Mending}
 use Rattle.mender.specs.Mended.{table_of, mended_byte, mended_suspicion}
 use Rattle.mender.specs.Mending.{IsSameMending, with_change, count_with}
-use Rattle.mender.proofs.CellLaws.{table_of-length, table_of-at, row-byte, head-same}
+use Rattle.mender.proofs.CellLaws.{inside, table_of-length, table_of-at, row-byte, head-same}
 
 -- a place in a table has a number of two bytes
 pub place_low : (n len at : ℕ) → is_size n ≡ true → len ≡ table_length n → at < len → at < 65536
@@ -74,20 +75,13 @@ changes-few t u (suc p) =
     (λ e. let s = ap length (changes-suc t u p) in omega (arith, rw (e, length-append) at s, changes-few t u p))
     (λ e. let s = ap length (changes-suc t u p) in omega (arith, rw (e, append-nil) at s, changes-few t u p))
 
-pub progress-start : (t u r : List ℕ) (p count : ℕ) → p ≡ 0 → count ≡ 0 → Progress t u r p t r count
+progress-start : (t u r : List ℕ) (p count : ℕ) → p ≡ 0 → count ≡ 0 → Progress t u r p t r count
 unfolding list_of
 progress-start t u r p count e k = rw (e, k) record { bytes = refl; listed = refl; counted = refl }
 
--- as many changes as places at most
-pub progress-few : (t u r : List ℕ) (p : ℕ) (now report : List ℕ) (count : ℕ) → Progress t u r p now report count → count ≤ p
-progress-few t u r p now report count g = omega (arith, g.counted, changes-few t u p)
-
--- the same place by another name
-pub progress-at : (t u r : List ℕ) (p q : ℕ) (now report : List ℕ) (count : ℕ) → Progress t u r p now report count → p ≡ q → Progress t u r q now report count
-progress-at t u r p q now report count g e = subst (λ (x : ℕ). Progress t u r x now report count) e g
-
 -- a byte that is not yet reached
-pub progress-ahead : (t u r : List ℕ) (p : ℕ) (now report : List ℕ) (count q : ℕ) → Progress t u r p now report count → p ≤ q → get_or now q 0 ≡ get_or t q 0
+progress-ahead : (t u r : List ℕ) (p : ℕ) (now report : List ℕ) (count q : ℕ) → Progress t u r p now report count → p ≤ q
+    → get_or now q 0 ≡ get_or t q 0
 progress-ahead t u r p now report count q g h =
     rw g.bytes (sets-ahead t (list_of (λ k. get_or u k 0) p) 0 q (omega (arith, list_of-length (λ k. get_or u k 0) p)))
 
@@ -108,7 +102,8 @@ listed-next t u r p report count l k =
     ∙ ap₂ (λ x y. sets x y (change_bytes (change_at t u p))) (sym l) place in
     rw e (sym put ∙ sym (rw e at next)))
 
-counted-next : (t u : List ℕ) (p count : ℕ) → count ≡ length (changes_below t u p) → count_with count (change_at t u p) ≡ length (changes_below t u (suc p))
+counted-next : (t u : List ℕ) (p count : ℕ) → count ≡ length (changes_below t u p)
+    → count_with count (change_at t u p) ≡ length (changes_below t u (suc p))
 counted-next t u p count k =
     let next = ap length (changes-suc t u p) in
     by_bool (eqb (get_or t p 0) (get_or u p 0))
@@ -116,7 +111,7 @@ counted-next t u p count k =
     (λ e. rw e (omega (arith, k, rw (e, length-append) at next)))
 
 -- the mended byte is put at its place
-pub progress-next : (t u r : List ℕ) (p at next : ℕ) (now report now' report' : List ℕ) (count count' byte : ℕ) → Progress t u r p now report count
+progress-next : (t u r : List ℕ) (p at next : ℕ) (now report now' report' : List ℕ) (count count' byte : ℕ) → Progress t u r p now report count
     → at ≡ p → next ≡ p + 1 → byte ≡ get_or u p 0 → now' ≡ set now at byte
     → report' ≡ with_change report count (record { offset = at; before = get_or now at 0; after = byte })
     → count' ≡ count_with count (record { offset = at; before = get_or now at 0; after = byte })
@@ -135,7 +130,7 @@ progress-next t u r p at next now report now' report' count count' byte g a n b 
     same = rw (a, progress-ahead t u r p now report count p g (omega arith), b) refl
 
 -- bytes that are as mended already are passed over
-pub progress-skip : (t u r : List ℕ) (p q : ℕ) (now report : List ℕ) (count : ℕ) → Progress t u r p now report count → p ≤ q
+progress-skip : (t u r : List ℕ) (p q : ℕ) (now report : List ℕ) (count : ℕ) → Progress t u r p now report count → p ≤ q
     → ((y : ℕ) → p ≤ y → y < q → get_or u y 0 ≡ get_or now y 0) → Progress t u r q now report count
 progress-skip t u r p q now report count g l =
     le_ind (λ (x : ℕ). ((y : ℕ) → p ≤ y → y < x → get_or u y 0 ≡ get_or now y 0) → Progress t u r x now report count) (λ same. g)
@@ -151,96 +146,131 @@ suspicion-stays : (i k byte : ℕ) → byte ≤ 1 → (k ≡ i → byte ≡ 0) �
 suspicion-stays i k byte low own = by_bool (eqb k i) (λ e. rw e (sym (own (eqb-true k i e)))) (λ e. rw (e, le-ltb 1 byte low) refl)
 
 -- all bytes are put
-pub progress-done : (t u r : List ℕ) (p : ℕ) (now report : List ℕ) (count : ℕ) → Progress t u r p now report count → p ≡ length t → length u ≡ length t
+progress-done : (t u r : List ℕ) (p : ℕ) (now report : List ℕ) (count : ℕ) → Progress t u r p now report count → p ≡ length t
+    → length u ≡ length t
     → (now ≡ u) × (report ≡ sets r 0 (flat_map change_bytes (changes t u))) × (count ≡ length (changes t u))
 unfolding changes
 progress-done t u r p now report count g e l =
-    (g.bytes ∙ rw e (sets-all t (list_of (λ q. get_or u q 0) (length t)) (sym (list_of-length (λ q. get_or u q 0) (length t))) ∙ whole), rw e at g.listed, rw e at g.counted)
-  where
-    whole : list_of (λ q. get_or u q 0) (length t) ≡ u
-    whole =
-        ext_get_or 0 (list_of (λ q. get_or u q 0) (length t)) u (list_of-length (λ q. get_or u q 0) (length t) ∙ sym l)
-        (λ k h. list_of-at (λ q. get_or u q 0) (length t) k (omega (arith, list_of-length (λ q. get_or u q 0) (length t))))
+    let put = list_of-length (λ q. get_or u q 0) (length t) in
+    let whole = ext_get_or 0 (list_of (λ q. get_or u q 0) (length t)) u (put ∙ sym l)
+    (λ k h. list_of-at (λ q. get_or u q 0) (length t) k (omega (arith, put))) in
+    (g.bytes ∙ rw e (sets-all t (list_of (λ q. get_or u q 0) (length t)) (sym put) ∙ whole), rw e at g.listed, rw e at g.counted)
 
 -- the mended table, where it is known whether the round is over
 abbrev pub mended_by : ℕ → ℕ → List ℕ → Bool → List ℕ
 mended_by w n t over = table_of n (mended_byte w n t over)
-
--- as the loops put it byte by byte
-module _ (w n : ℕ) (t r : List ℕ) (over : Bool) where
-  -- a byte of a line that the loops have not reached
-  line-ahead : (p : ℕ) (now report : List ℕ) (count i c : ℕ) → Progress t (mended_by w n t over) r p now report count → p ≤ line_start n i + c → cell n now i c ≡ cell n t i c
-  unfolding cell
-  line-ahead p now report count i c g h = progress-ahead t (mended_by w n t over) r p now report count (line_start n i + c) g h
-
-  -- bytes 0 to 5 of line i, made when the loops came to the line
-  pub head-put : (now report : List ℕ) (count i c n' byte : ℕ) (read made : List ℕ) → Progress t (mended_by w n t over) r (line_start n i) now report count
-      → i < n → c < head → n' ≡ n → read ≡ now → made ≡ list_of (mended_byte w n' read over i) 6 → byte ≡ get_or made c 0
-      → byte ≡ get_or (mended_by w n t over) (line_start n i + c) 0
-  head-put now report count i c n' byte read made g h hc e d m b =
-      b ∙ rw (m, e, d) (list_of-at (mended_byte w n now over i) 6 c hc)
-      ∙ head-same w n now t over i c (λ k hk. line-ahead (line_start n i) now report count i k g (omega arith)) hc
-      ∙ sym (table_of-at n (mended_byte w n t over) i c h (omega arith))
-
-  -- a byte of the row of line i, made when the loop came to it
-  pub row-put : (now report : List ℕ) (count i k at byte : ℕ) → Progress t (mended_by w n t over) r (line_start n i + (head + k)) now report count
-      → i < n → k < n → at ≡ line_start n i + (head + k) → byte ≡ mended_suspicion i k (get_or now at 0)
-      → byte ≡ get_or (mended_by w n t over) (line_start n i + (head + k)) 0
-  unfolding cell
-  row-put now report count i k at byte g h hk a b =
-      let p = line_start n i + (head + k) in
-      b ∙ rw (a, progress-ahead t (mended_by w n t over) r p now report count p g (omega arith)) refl
-      ∙ sym (row-byte w n t over i k) ∙ sym (table_of-at n (mended_byte w n t over) i (head + k) h (omega arith))
-
-  -- a row that keeps its rules stays
-  pub row-skip : (now report : List ℕ) (count i n' : ℕ) (read : List ℕ) → Progress t (mended_by w n t over) r (line_start n i + head) now report count
-      → i < n → n' ≡ n → read ≡ now → row_rule n' read i ≡ true → Progress t (mended_by w n t over) r (line_start n i + (head + n)) now report count
-  unfolding row_rule cell
-  row-skip now report count i n' read g h e d kept =
-      let start = line_start n i + head in
-      let here : row_rule n now i ≡ true = subst (λ (x : ℕ). row_rule x now i ≡ true) e (subst (λ (x : List ℕ). row_rule n' x i ≡ true) d kept) in
-      let parts = both (eqb (get_or now (line_start n i + (head + i)) 0) 0) (every (suspicion_rule n now i) n) here in
-      let end = progress-skip t (mended_by w n t over) r start (start + n) now report count g (omega arith)
-      (λ y a b.
-      let k = y - start in
-      let at : line_start n i + (head + k) ≡ y = omega arith in
-      let hk : k < n = omega arith in
-      let low : get_or now (line_start n i + (head + k)) 0 ≤ 1 = leb-true (get_or now (line_start n i + (head + k)) 0) 1 (every-at (suspicion_rule n now i) n k parts.1 hk) in
-      let own : get_or now (line_start n i + (head + i)) 0 ≡ 0 = eqb-true (get_or now (line_start n i + (head + i)) 0) 0 parts.0 in
-      let stays = suspicion-stays i k (get_or now (line_start n i + (head + k)) 0) low (λ s. ap (λ (x : ℕ). get_or now (line_start n i + (head + x)) 0) s ∙ own) in
-      let ahead = progress-ahead t (mended_by w n t over) r start now report count (line_start n i + (head + k)) g (omega arith) in
-      subst (λ (x : ℕ). get_or (mended_by w n t over) x 0 ≡ get_or now x 0) at
-      (table_of-at n (mended_byte w n t over) i (head + k) h (omega arith) ∙ row-byte w n t over i k ∙ ap (mended_suspicion i k) (sym ahead) ∙ stays)) in
-      progress-at t (mended_by w n t over) r (start + n) (line_start n i + (head + n)) now report count end (omega arith)
 
 -- where the next line begins, and where the last one ends
 pub line-next : (n i : ℕ) → line_start n (i + 1) ≡ line_start n i + (head + n)
 unfolding line_start
 line-next n i = let e = suc-mul i (stride n) in rw add-one (omega arith)
 
-pub line-first : (n : ℕ) → line_start n 0 ≡ 0
+line-first : (n : ℕ) → line_start n 0 ≡ 0
 unfolding line_start
 line-first n = zero-mul (stride n)
 
-pub line-last : (n : ℕ) → line_start n n ≡ table_length n
+line-last : (n : ℕ) → line_start n n ≡ table_length n
 unfolding line_start table_length
 line-last n = refl
 
--- the same lent memory after two steps
-pub same-start : (m : Mending) → IsSameMending m m
-same-start m = record { size = refl; table_reference = refl; report_reference = refl }
+-- the mending that began as m has come to place p
+pub record Reached (w : ℕ) (over : Bool) (m now : Mending) (p : ℕ) : Type 0 where
+  pub same : IsSameMending m now
+  pub so_far : Progress m.table.now (mended_by w m.n m.table.now over) m.report.now p now.table.now now.report.now now.changes
 
-pub same-then : (a b c : Mending) → IsSameMending a b → IsSameMending b c → IsSameMending a c
-same-then a b c s e =
+pub reached-start : (w : ℕ) (over : Bool) (m : Mending) → m.changes ≡ 0 → Reached w over m m (line_start m.n 0)
+reached-start w over m none =
     record {
-      size = e.size ∙ s.size;
-      table_reference = e.table_reference ∙ s.table_reference;
-      report_reference = e.report_reference ∙ s.report_reference;
+      same = record { size = refl; table_reference = refl; report_reference = refl };
+      so_far = progress-start m.table.now (mended_by w m.n m.table.now over) m.report.now (line_start m.n 0) m.changes (line-first m.n) none;
     }
 
+-- the same place by another name
+pub reached-at : {w p q : ℕ} {over : Bool} {m now : Mending} → Reached w over m now p → p ≡ q → Reached w over m now q
+reached-at {w} {p} {q} {over} {m} {now} g e = subst (λ (x : ℕ). Reached w over m now x) e g
+
+-- a place of line i is one of the table
+pub reached-inside : {w p : ℕ} {over : Bool} {m now : Mending} (i c at : ℕ) → Reached w over m now p → i < m.n → c < stride m.n
+    → at ≡ line_start m.n i + c → at < length now.table.now
+reached-inside {w} {p} {over} {m} {now} i c at g h hc a =
+    let long : length now.table.now ≡ table_length m.n = now.fits ∙ ap table_length g.same.size in
+    omega (arith, inside m.n i c h hc)
+
+-- as many changes as places at most
+pub reached-few : {w p : ℕ} {over : Bool} {m now : Mending} → Reached w over m now p → now.changes ≤ p
+reached-few {w} {p} {over} {m} {now} g =
+    omega (arith, g.so_far.counted, changes-few m.table.now (mended_by w m.n m.table.now over) p)
+
+-- a byte of a line that the loops have not reached
+reached-ahead : {w p : ℕ} {over : Bool} {m now : Mending} (i c : ℕ) → Reached w over m now p → p ≤ line_start m.n i + c
+    → cell m.n now.table.now i c ≡ cell m.n m.table.now i c
+unfolding cell
+reached-ahead {w} {p} {over} {m} {now} i c g h =
+    progress-ahead m.table.now (mended_by w m.n m.table.now over) m.report.now p _ _ _ (line_start m.n i + c) g.so_far h
+
+-- the mended byte is put at its place
+pub reached-next : {w p at byte : ℕ} {over : Bool} {m now next : Mending} (q : ℕ) → Reached w over m now p → at ≡ p → q ≡ p + 1
+    → byte ≡ get_or (mended_by w m.n m.table.now over) p 0 → IsSameMending now next → next.table.now ≡ set now.table.now at byte
+    → next.report.now ≡ with_change now.report.now now.changes (record { offset = at; before = get_or now.table.now at 0; after = byte })
+    → next.changes ≡ count_with now.changes (record { offset = at; before = get_or now.table.now at 0; after = byte })
+    → Reached w over m next q
+reached-next {w} {p} {at} {byte} {over} {m} {now} {next} q g a n b s t l c =
+    record {
+      same = record {
+        size = s.size ∙ g.same.size;
+        table_reference = s.table_reference ∙ g.same.table_reference;
+        report_reference = s.report_reference ∙ g.same.report_reference;
+      };
+      so_far = progress-next m.table.now (mended_by w m.n m.table.now over) m.report.now p at q _ _ _ _ _ _ _ g.so_far a n b t l c;
+    }
+
+-- bytes 0 to 5 of line i, made when the loops came to the line
+pub head-put : {w : ℕ} {over : Bool} {m now : Mending} (i c : ℕ) (read : Table) (made : List ℕ) → Reached w over m now (line_start m.n i)
+    → i < m.n → c < head → read.n ≡ now.n → read.bytes.now ≡ now.table.now → made ≡ list_of (mended_byte w read.n read.bytes.now over i) 6
+    → get_or made c 0 ≡ get_or (mended_by w m.n m.table.now over) (line_start m.n i + c) 0
+head-put {w} {over} {m} {now} i c read made g h hc e d b =
+    rw (b, e ∙ g.same.size, d) (list_of-at (mended_byte w m.n now.table.now over i) 6 c hc)
+    ∙ head-same w m.n now.table.now m.table.now over i c (λ k hk. reached-ahead i k g (omega arith)) hc
+    ∙ sym (table_of-at m.n (mended_byte w m.n m.table.now over) i c h (omega arith))
+
+-- a byte of the row of line i that the loops have not reached
+pub row-put : {w p : ℕ} {over : Bool} {m now : Mending} (i k at : ℕ) → Reached w over m now p → p ≤ at → i < m.n → k < m.n
+    → at ≡ line_start m.n i + (head + k)
+    → mended_suspicion i k (get_or now.table.now at 0) ≡ get_or (mended_by w m.n m.table.now over) (line_start m.n i + (head + k)) 0
+unfolding cell
+row-put {w} {p} {over} {m} {now} i k at g l h hk a =
+    rw a (ap (mended_suspicion i k) (reached-ahead i (head + k) g (omega arith)))
+    ∙ sym (row-byte w m.n m.table.now over i k) ∙ sym (table_of-at m.n (mended_byte w m.n m.table.now over) i (head + k) h (omega arith))
+
+-- a row that keeps its rules stays
+pub row-skip : {w : ℕ} {over : Bool} {m now : Mending} (i : ℕ) (read : Table) → Reached w over m now (line_start m.n i + head) → i < m.n
+    → read.n ≡ now.n → read.bytes.now ≡ now.table.now → row_rule read.n read.bytes.now i ≡ true
+    → Reached w over m now (line_start m.n (i + 1))
+unfolding row_rule cell
+row-skip {w} {over} {m} {now} i read g h e d kept =
+    let start = line_start m.n i + head in
+    let t = now.table.now in
+    let mended = mended_by w m.n m.table.now over in
+    let here : row_rule read.n t i ≡ true = subst (λ (x : List ℕ). row_rule read.n x i ≡ true) d kept in
+    let here : row_rule m.n t i ≡ true = subst (λ (x : ℕ). row_rule x t i ≡ true) (e ∙ g.same.size) here in
+    let parts = both (eqb (get_or t (line_start m.n i + (head + i)) 0) 0) (every (suspicion_rule m.n t i) m.n) here in
+    let end = progress-skip m.table.now mended m.report.now start (start + m.n) t now.report.now now.changes g.so_far (omega arith)
+    (λ y a b.
+    let k = y - start in
+    let at : y ≡ line_start m.n i + (head + k) = omega arith in
+    let hk : k < m.n = omega arith in
+    let low = leb-true (get_or t (line_start m.n i + (head + k)) 0) 1 (every-at (suspicion_rule m.n t i) m.n k parts.1 hk) in
+    let own = eqb-true (get_or t (line_start m.n i + (head + i)) 0) 0 parts.0 in
+    let stays = suspicion-stays i k (get_or t y 0) (rw at low)
+    (λ s. ap (λ (x : ℕ). get_or t x 0) (at ∙ ap (λ (x : ℕ). line_start m.n i + (head + x)) s) ∙ own) in
+    ap (λ (x : ℕ). get_or mended x 0) at ∙ sym (row-put i k y g a h hk at) ∙ stays) in
+    reached-at (record { same = g.same; so_far = end }) (omega (arith, line-next m.n i))
+
 -- after the last line
-pub all-done : (w n : ℕ) (t r : List ℕ) (over : Bool) (i : ℕ) (now report : List ℕ) (count : ℕ) → length t ≡ table_length n
-    → Progress t (mended_by w n t over) r (line_start n i) now report count → i ≡ n
-    → (now ≡ mended_by w n t over) × (report ≡ sets r 0 (flat_map change_bytes (changes t (mended_by w n t over)))) × (count ≡ length (changes t (mended_by w n t over)))
-all-done w n t r over i now report count long g e =
-    progress-done t (mended_by w n t over) r (line_start n i) now report count g (rw e (line-last n ∙ sym long)) (table_of-length n (mended_byte w n t over) ∙ sym long)
+pub all-done : {w p : ℕ} {over : Bool} {m now : Mending} → Reached w over m now p → p ≡ line_start m.n m.n
+    → let u = mended_by w m.n m.table.now over in
+    (now.table.now ≡ u) × (now.report.now ≡ sets m.report.now 0 (flat_map change_bytes (changes m.table.now u)))
+    × (now.changes ≡ length (changes m.table.now u))
+all-done {w} {p} {over} {m} {now} g e =
+    progress-done m.table.now (mended_by w m.n m.table.now over) m.report.now p now.table.now now.report.now now.changes g.so_far
+    (e ∙ line-last m.n ∙ sym m.fits) (table_of-length m.n (mended_byte w m.n m.table.now over) ∙ sym m.fits)

@@ -2,7 +2,9 @@
 -- Assumes nothing.
 use Rattle.std.specs.Prelude.{ℕ, ◌/◌, ◌%◌, ◌-◌, Bool, ◌&&◌, ◌||◌, List, if◌then◌else◌, ◌==◌, nat_lt, nat_le}
 use Rattle.lists.specs.Search.{list_of}
-use Rattle.table.specs.Table.{head, stride, table_length, cell, status_column, next_column, tests_column, told_by_column, rounds_ago_column, status, status_crashed, status_told, next_distance, finished, tests_made, told_by, told_by_none, not_recorded, rounds_ago}
+use Rattle.table.specs.Table.{head, stride, table_length, cell, status_crashed, status_told, told_by_none, not_recorded}
+use Rattle.table.specs.Table.{status_column, next_column, tests_column, told_by_column, rounds_ago_column}
+use Rattle.table.specs.Table.{status, next_distance, finished, tests_made, told_by, rounds_ago}
 use Rattle.table.specs.Wiring.{end_distance}
 use Rattle.table.specs.Rules.{status_rule, pass_rule, exit_rule, round_over}
 

@@ -1,43 +1,24 @@
-// What is claimed of mending (specs/Claims.antt): each claim is the contract of a function that does nothing.
+// What is claimed of mending (specs/Claims.antt): each claim is a clause of a function that does nothing.
 
-ghost use Rattle.mender.specs.Claims.{MendedPasses, MendedOnce, GoodTableStays, ListedIsTrue, UnlistedStays, ReportHasRoom, StatusStays, NoSuspicionInvented};
+ghost use Rattle.mender.specs.Claims.{MendedPasses, MendedOnce, GoodTableStays, ListedIsTrue, UnlistedStays, ReportHasRoom, StatusStays};
+ghost use Rattle.mender.specs.Claims.{NoSuspicionInvented};
 
-// Refusals 24 and 1 to 4 let a mended table through.
-pub fn mended_passes()
-    ensures { MendedPasses }
-{}
-
-// Mending a mended table changes and lists nothing.
-pub fn mended_once()
-    ensures { MendedOnce }
-{}
-
-// Mending a table that refusals 24 and 1 to 4 let through changes and lists nothing.
-pub fn good_table_stays()
-    ensures { GoodTableStays }
-{}
-
-// Each listed byte was the old one and is the new one.
-pub fn listed_is_true()
-    ensures { ListedIsTrue }
-{}
-
-// A byte that is not listed is what it was.
-pub fn unlisted_stays()
-    ensures { UnlistedStays }
-{}
-
-// A report of the length that refusal 23 asks for has room for every list of changes.
-pub fn report_has_room()
-    ensures { ReportHasRoom }
-{}
-
-// A status from 0 to 3 stays.
-pub fn status_stays()
-    ensures { StatusStays }
-{}
-
-// Who suspects a station after mending did so before.
-pub fn no_suspicion_invented()
-    ensures { NoSuspicionInvented }
+// Of tables and lists of changes (specs/Claims.antt).
+pub fn mending()
+    // Refusals 24 and 1 to 4 let a mended table through.
+    ensures mended_passes { MendedPasses }
+    // Mending a mended table changes and lists nothing.
+    ensures mended_once { MendedOnce }
+    // Mending a table that refusals 24 and 1 to 4 let through changes and lists nothing.
+    ensures good_table_stays { GoodTableStays }
+    // Each listed byte was the old one and is the new one.
+    ensures listed_is_true { ListedIsTrue }
+    // A byte that is not listed is what it was.
+    ensures unlisted_stays { UnlistedStays }
+    // A report of the length that refusal 23 asks for has room for every list of changes.
+    ensures report_has_room { ReportHasRoom }
+    // A status from 0 to 3 stays.
+    ensures status_stays { StatusStays }
+    // Who suspects a station after mending did so before.
+    ensures no_suspicion_invented { NoSuspicionInvented }
 {}

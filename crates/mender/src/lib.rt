@@ -8,8 +8,12 @@ mod lines;
 mod mending;
 pub mod report;
 
-ghost use Rattle.std.specs.Prelude.{◌≡◌, length};
-ghost use Rattle.mender.specs.Report.{mend, table_after, report_after};
+ghost use Rattle.std.specs.Prelude.{◌≡◌, ◌*◌, ◌≤◌, true, length};
+ghost use Rattle.table.specs.Sizes.{is_size};
+ghost use Rattle.table.specs.Table.{table_length};
+ghost use Rattle.table.specs.Wiring.{wiring_number};
+ghost use Rattle.mender.specs.Mended.{mended};
+ghost use Rattle.mender.specs.Report.{mends, report_of, mend, table_after, report_after};
 
 use crate::mending::Mending;
 use lists::refusal::Refusal;
@@ -29,7 +33,20 @@ pub fn mend(wiring: usize, n: usize, table: &mut [u8], report: &mut [u8]) -> Res
         return Err(Refusal::ReportTooShort);
     }
     let n = lent.n;
-    let over = lines::is_over(wiring, &lent);
+    Ok(mend_checked(wiring, n, table, report))
+}
+
+// The same of what is not refused.
+fn mend_checked(wiring: Wiring, n: u8, table: &mut [u8], report: &mut [u8]) -> usize
+    requires sized { is_size n ≡ true }
+    requires fits { length table.old ≡ table_length n }
+    requires room { 4 * table_length n ≤ length report.old }
+    ensures number_of_changes { result ≡ length (mends (wiring_number wiring) n table.old) }
+    ensures mended_table { table.new ≡ mended (wiring_number wiring) n table.old }
+    ensures listed_changes { let changes = mends (wiring_number wiring) n table.old in
+        report.new ≡ report_of changes (length report.old) }
+{
+    let over = lines::is_over(wiring, &Table { n, bytes: table });
     let mut mending = Mending {
         n,
         table,
@@ -38,5 +55,5 @@ pub fn mend(wiring: usize, n: usize, table: &mut [u8], report: &mut [u8]) -> Res
     };
     mending.mend_lines(wiring, over);
     mending.clear_rest();
-    Ok(mending.changes)
+    mending.changes
 }

@@ -19,6 +19,7 @@ pub(crate) struct Mending<'a> {
     ghost sized: { is_size n ≡ true },
     ghost fits: { length table.now ≡ table_length n },
     ghost room: { 4 * table_length n ≤ length report.now },
+    ghost few: { changes ≤ table_length n },
 }
 
 impl<'a> Mending<'a> {
@@ -85,8 +86,9 @@ impl<'a> Mending<'a> {
         ensures changes_counted { self.new.changes
             ≡ length (changes self.old.table.now self.new.table.now) }
     {
-        for i in 0..self.n {
-            let line = cells::line_start(self.n, Station(i));
+        let n = self.n;
+        for i in 0..n {
+            let line = cells::line_start(n, Station(i));
             let head = lines::mended_head(wiring, &self.read(), Station(i), over);
             for (c, byte) in head.iter().enumerate() {
                 self.put(line + c, *byte);
@@ -95,7 +97,7 @@ impl<'a> Mending<'a> {
             if self.read().keeps_row_rule(Station(i)) {
                 continue;
             }
-            for k in 0..self.n {
+            for k in 0..n {
                 let at = line + cells::HEAD as usize + k as usize;
                 let byte = lines::mended_suspicion(Station(i), Station(k), self.table[at]);
                 self.put(at, byte);
@@ -105,7 +107,6 @@ impl<'a> Mending<'a> {
 
     // Zeros behind the changes.
     pub fn clear_rest(&mut self)
-        requires { 4 * self.old.changes ≤ length self.old.report.now }
         ensures same_mending { IsSameMending self.old self.new }
         ensures same_table { self.new.table.now ≡ self.old.table.now }
         ensures same_count { self.new.changes ≡ self.old.changes }

@@ -1,27 +1,9 @@
 -- The round of specs/Example.antt, computed by the definitions.
 -- Assumes nothing.
 use mathlib.Core.Path.{refl}
-use Rattle.lists.specs.Search.{every, list_of, least}
-use Rattle.lists.specs.Steps.{after_steps}
-use Rattle.lists.specs.Bytes.{joined_byte}
-use Rattle.table.specs.Sizes.{is_size}
-use Rattle.table.specs.Wiring.{end_distance}
-use Rattle.table.specs.Table.{table_length, line_start, cell, set_cell, row, set_row}
-use Rattle.table.specs.Rules.{exit_rule, row_rule, wired_line_rules, some_live, live_finished, shape_check, table_check_on}
-use Rattle.table.specs.Fresh.{fresh_byte, fresh_table}
-use Rattle.station.specs.Wired.{wired_station, wired_due}
-use Rattle.station.specs.Rows.{union_byte, union, mark}
-use Rattle.plant.specs.Turn.{leave_told, next_test, makes_test, finish_pass, count_test, replies, is_told, exchange_rows, suspect, reply_outcome, test_outcome, after_outcome, self_or_suspected, is_alone, after_alone, after_test, testing, turn, turn_tested, turn_outcome, crash}
-use Rattle.station.specs.Wired.{next_after}
-use Rattle.plant.specs.Round.{rounds_after, reset_line, reset_lines, after_round}
-use Rattle.plant.specs.Entry.{entry_check, acted, after, tested_of, outcome_of, sheet_line}
-use Rattle.plant.specs.Run.{entries, go_on, start_check, run}
 use Rattle.plant.specs.Example.{RoundOnTheRing}
+use Rattle.plant.proofs.WholeRun.{whole_run}
 
 pub round-on-the-ring : RoundOnTheRing
-unfolding every list_of least after_steps joined_byte is_size end_distance table_length line_start cell set_cell row set_row exit_rule row_rule
-    wired_line_rules some_live live_finished shape_check table_check_on fresh_byte fresh_table wired_station wired_due union_byte union mark
-    leave_told next_test makes_test finish_pass next_after count_test replies is_told exchange_rows suspect reply_outcome test_outcome after_outcome
-    self_or_suspected is_alone after_alone after_test testing turn turn_tested turn_outcome crash rounds_after reset_line reset_lines after_round
-    entry_check acted after tested_of outcome_of sheet_line entries go_on start_check run
+unfolding whole_run
 round-on-the-ring = refl

@@ -7,4 +7,5 @@ pub mod TurnHeads
 pub mod RoundLaws
 pub mod RunLaws
 pub mod RulesKept
+pub mod WholeRun
 pub mod Computed

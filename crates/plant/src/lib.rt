@@ -1,6 +1,6 @@
 // The plant run of the vCube watch: one station's turn (`steps`), entries, rounds, the tally. It stands above `station` and relies only on what
 // the crates below state. The call is run::run.
-// single::take_turn has a `requires`: it is for the crates above, which have checked the table. Those of `claims` do nothing: their contracts are
+// single::take_turn has a `requires`: it is for the crates above, which have checked the table. Those of `claims` do nothing: their clauses are
 // claims of every run.
 #![tactic(auto)]
 

@@ -9,4 +9,5 @@ returns c =
     let w = wiring_number c.args.wiring in
     let n = c.args.table.now.n in
     let t = c.args.table.now.bytes.now in
-    rw (lines_live w n t c.args.i.0 c.requires, lines_finished w n t c.args.i.0 c.requires, c.is_live.ensures, c.is_finished.ensures, c.keeps_pass.ensures) refl
+    rw (lines_live w n t c.args.i.0 c.requires, lines_finished w n t c.args.i.0 c.requires)
+    (rw (c.is_live.ensures, c.is_finished.ensures, c.keeps_pass.ensures) refl)

@@ -1,6 +1,0 @@
--- The claim is proved in proofs/DetectionClaim.antt.
-use Rattle.detection.proofs.DetectionClaim.{detection-in-square}
-use Rattle.detection.proofs.claims.detection_in_square.Goals as goal
-
-pub returns : goal.returns
-returns c = detection-in-square

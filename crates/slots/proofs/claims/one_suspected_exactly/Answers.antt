@@ -1,6 +1,0 @@
--- The claim is proved in proofs/OneDead.antt.
-use Rattle.slots.proofs.OneDead.{one-suspected-exactly}
-use Rattle.slots.proofs.claims.one_suspected_exactly.Goals as goal
-
-pub returns : goal.returns
-returns c = one-suspected-exactly

@@ -1,6 +1,0 @@
--- The claim is proved in proofs/Reached.antt.
-use Rattle.witness.proofs.Reached.{worst-case-is-reached}
-use Rattle.witness.proofs.worst_case_is_reached.Goals as goal
-
-pub returns : goal.returns
-returns c = worst-case-is-reached
