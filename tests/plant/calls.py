@@ -74,7 +74,9 @@ def none_left(what, session, members):
 def ended(plant, how, members, folder):
     """A plant that runs without an end: by Ctrl-C and by the end of the terminal, which go to all processes; by a kill; by the death of a board. One
     of whose boards the computer does not let run says so first."""
-    process = subprocess.Popen([plant, '4', '--reply', '600ms'], env={**os.environ, 'TMPDIR': folder}, stdin=subprocess.DEVNULL,
+    # A board that is stopped for 1.2 s tells it, as frames come every half second at least, and makes no reply late.
+    reply = '2s' if how == 'a board is stopped by others' else '600ms'
+    process = subprocess.Popen([plant, '4', '--reply', reply], env={**os.environ, 'TMPDIR': folder}, stdin=subprocess.DEVNULL,
                                stdout=subprocess.PIPE, stderr=subprocess.PIPE, start_new_session=True)
     process.stdout.readline()
     if how == 'Ctrl-C':
@@ -91,7 +93,7 @@ def ended(plant, how, members, folder):
         board = next(pid for pid in members(process.pid) if command_of(pid)[-6:-4] == ['4', '2'])
         os.kill(board, signal.SIGKILL if how == 'a board ends' else signal.SIGSTOP)
     if how == 'a board is stopped by others':
-        time.sleep(0.3)
+        time.sleep(1.2)
         os.kill(board, signal.SIGCONT)
         time.sleep(0.5)
         process.terminate()
@@ -107,7 +109,7 @@ def ended(plant, how, members, folder):
         yield f'{how}: status {process.returncode}, not {status}: {err}'
     if status == 0 and not re.search(r'rounds? closed, \d+ entr(y|ies); live: 0, 1, 2 and 3\n$', out):
         yield f'{how}: it ends with {out[-100:]!r}'
-    if how == 'a board is stopped by others' and not re.search(r'board 2 could not run for \d+ ms\. .* take a longer --reply\n', out):
+    if how == 'a board is stopped by others' and not re.search(r' could not run for \d+ ms\. .* take a longer --reply\n', out):
         yield f'{how}: it does not say so: {out[-400:]!r}'
     if how == 'a board ends' and err != 'plant: board 2 ended by itself, with status -9\n':
         yield f'{how}: it says {err!r}'
