@@ -97,7 +97,8 @@ module _ (r h now : List ℕ) (own m : ℕ) (j : Joined r h now own m) where
   join-next t inside e = record {
     long = ap length e ∙ length-set now m (union_byte now h own m) ∙ j.long;
     passed = λ k a b. ap (λ (x : List ℕ). get_or x k 0) e ∙ pick k a b (ℕ_discrete k m);
-    ahead = λ k a. ap (λ (x : List ℕ). get_or x k 0) e ∙ get_or-set_other now m k (union_byte now h own m) 0 (λ q. omega arith) ∙ j.ahead k (omega arith);
+    ahead =
+        λ k a. ap (λ (x : List ℕ). get_or x k 0) e ∙ get_or-set_other now m k (union_byte now h own m) 0 (λ q. omega arith) ∙ j.ahead k (omega arith);
   }
     where
       pick : (k : ℕ) → k < m + 1 → k < length r → Dec (k ≡ m) → get_or (set now m (union_byte now h own m)) k 0 ≡ union_byte r h own k
@@ -127,7 +128,8 @@ pub rest-unheard : (n from : ℕ) (p : List ℕ) (m : ℕ) → get_or p (m / 8) 
     → (k : ℕ) → m ≤ k → k < m + (8 - m % 8) → k < n → get_or (heard n from p) k 0 ≡ 0
 rest-unheard n from p m e k lo hi h =
     let b : k / 8 ≡ m / 8 = omega arith in
-    heard_at n from p k h ∙ unheard from p k (ap (λ (x : ℕ). bit_at (get_or p x 0) (k % 8)) b ∙ rest-zero (get_or p (m / 8) 0) (m % 8) (k % 8) e (omega arith))
+    heard_at n from p k h ∙ unheard from p k
+    (ap (λ (x : ℕ). bit_at (get_or p x 0) (k % 8)) b ∙ rest-zero (get_or p (m / 8) 0) (m % 8) (k % 8) e (omega arith))
 
 -- a bit that is not 1
 pub bit-unheard : (n from : ℕ) (p : List ℕ) (m : ℕ) → bit_and (get_or p (m / 8) 0 / 2 ^ (m % 8)) 1 ≢ 1

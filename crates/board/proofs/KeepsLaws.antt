@@ -19,7 +19,8 @@ use Rattle.lists.proofs.RefusalLaws.{ensure_ok, and_ok}
 use Rattle.table.specs.Sizes.{is_size}
 use Rattle.table.specs.Wiring.{wiring_check, end_distance}
 use Rattle.table.specs.Fresh.{fresh_byte}
-use Rattle.table.specs.Table.{head, stride, status_column, next_column, finished_column, tests_column, told_by_column, told_by_none, rounds_ago_column, rounds_ago_top, status_told, status_alone}
+use Rattle.table.specs.Table.{head, stride, status_column, next_column, finished_column, tests_column, told_by_column, told_by_none}
+use Rattle.table.specs.Table.{rounds_ago_column, rounds_ago_top, status_told, status_alone}
 use Rattle.table.specs.Rules.{exit_rule}
 use Rattle.lists.specs.Search.{list_of}
 use Rattle.lists.specs.Bytes.{joined_byte}
@@ -27,15 +28,15 @@ use Rattle.lists.specs.Refusal.{Check, unless_refused}
 use Rattle.station.specs.Wired.{wired_station, next_after}
 use Rattle.station.specs.Rows.{union, mark, suspects_all}
 use Rattle.station.proofs.UnionLaws.{union-length, union-at, union-own, union-others}
-use Rattle.station.proofs.WiredLaws.{station-apart}
+use Rattle.station.proofs.WiredLaws.{station-apart, next_after-between}
 use Rattle.station.specs.Outcome.{outcome_told, outcome_tested_told, outcome_exchanged}
-use Rattle.table.proofs.WiringLaws.{end-pos}
-use Rattle.table.proofs.CellLaws.{Pass, pass-facts, pass-holds, live_exit, none-exit, told-exit}
+use Rattle.table.proofs.CellLaws.{start-pass, Pass, pass-facts, pass-holds, live_exit, none-exit, told-exit}
 use Rattle.table.specs.Line.{row_of, with_row}
-use Rattle.board.specs.Board.{suspicion_of, next_of, tests, tested, pass_finished, counted, left_told, joined, suspecting, alone, after_alone, outcome_of, row_given, after_outcome, tested_at, turn_of, round_closed}
+use Rattle.board.specs.Board.{suspicion_of, next_of, tests, tested, pass_finished, counted, left_told, joined, suspecting, alone, after_alone}
+use Rattle.board.specs.Board.{outcome_of, row_given, after_outcome, tested_at, turn_of, round_closed}
 use Rattle.board.specs.Packed.{heard}
 use Rattle.table.proofs.LineLaws.{row_of-length, row_of-at, with_row-length, with_row-head, with_row-in}
-use Rattle.board.proofs.NextLaws.{next-low, next-station, next_after-between}
+use Rattle.board.proofs.NextLaws.{next-low, next-station}
 use Rattle.board.proofs.PackedLaws.{any-bytes}
 use Rattle.board.specs.Keeps.{CallsKeepTheRules, FreshLineIsOne}
 use Rattle.board.specs.Calls.{line_rules, place_check, line_check, turn_check, replied_check, sent_check, exchanged_check, row_in}
@@ -108,7 +109,8 @@ aged n i s by old e = by_bool (eqb s 0) (λ f. rw f (rw f at e)) (λ f. rw f (rw
 
 module _ (w n i : ℕ) (l : List ℕ) (g : Good w n i l) where
   -- a line that differs only in bytes 1 to 3, which keep their rules
-  counts-kept : (l' : List ℕ) → length l' ≡ length l → ((k : ℕ) → k ≢ next_column → k ≢ finished_column → k ≢ tests_column → get_or l' k 0 ≡ get_or l k 0)
+  counts-kept : (l' : List ℕ) → length l' ≡ length l
+      → ((k : ℕ) → k ≢ next_column → k ≢ finished_column → k ≢ tests_column → get_or l' k 0 ≡ get_or l k 0)
       → Pass (end_distance w n) (get_or l' next_column 0) (get_or l' finished_column 0) (get_or l' tests_column 0) → Good w n i l'
   counts-kept l' long same pass =
       let at : (k : ℕ) → k ≢ next_column → k ≢ finished_column → k ≢ tests_column → get_or l' k 0 ≡ get_or l k 0 = same in
@@ -137,7 +139,8 @@ module _ (w n i : ℕ) (l : List ℕ) (g : Good w n i l) where
       get_or-set_other (set l next_column (end_distance w n)) finished_column next_column 1 0 (λ e. omega arith)
       ∙ get_or-set_same l next_column (end_distance w n) 0 (omega (arith, g.long)) in
       let done : get_or l' finished_column 0 ≡ 1 =
-      get_or-set_same (set l next_column (end_distance w n)) finished_column 1 0 (omega (arith, g.long, length-set l next_column (end_distance w n))) in
+      get_or-set_same (set l next_column (end_distance w n)) finished_column 1 0
+      (omega (arith, g.long, length-set l next_column (end_distance w n))) in
       let tests : get_or l' tests_column 0 ≡ get_or l tests_column 0 =
       two-other l next_column (end_distance w n) finished_column 1 tests_column (λ e. omega arith) (λ e. omega arith) in
       counts-kept l' (two-long l next_column (end_distance w n) finished_column 1)
@@ -150,7 +153,8 @@ module _ (w n i : ℕ) (l : List ℕ) (g : Good w n i l) where
         finished_next = λ p. next;
       })
 
-  pub count-good : (m o : ℕ) → (get_or l finished_column 0 ≡ 1 → ⊥) → get_or l next_column 0 ≤ m → m < end_distance w n → Good w n i (counted w n l m o)
+  pub count-good : (m o : ℕ) → (get_or l finished_column 0 ≡ 1 → ⊥) → get_or l next_column 0 ≤ m → m < end_distance w n
+      → Good w n i (counted w n l m o)
   unfolding counted
   count-good m o going lo hi =
       let x : ℕ = next_after w n m o in
@@ -158,9 +162,12 @@ module _ (w n i : ℕ) (l : List ℕ) (g : Good w n i l) where
       let l' : List ℕ = set (set l next_column x) tests_column y in
       let b = next_after-between w n m o hi in
       let next : get_or l' next_column 0 ≡ x =
-      get_or-set_other (set l next_column x) tests_column next_column y 0 (λ e. omega arith) ∙ get_or-set_same l next_column x 0 (omega (arith, g.long)) in
-      let done : get_or l' finished_column 0 ≡ get_or l finished_column 0 = two-other l next_column x tests_column y finished_column (λ e. omega arith) (λ e. omega arith) in
-      let more : get_or l' tests_column 0 ≡ y = get_or-set_same (set l next_column x) tests_column y 0 (omega (arith, g.long, length-set l next_column x)) in
+      get_or-set_other (set l next_column x) tests_column next_column y 0 (λ e. omega arith)
+      ∙ get_or-set_same l next_column x 0 (omega (arith, g.long)) in
+      let done : get_or l' finished_column 0 ≡ get_or l finished_column 0 =
+      two-other l next_column x tests_column y finished_column (λ e. omega arith) (λ e. omega arith) in
+      let more : get_or l' tests_column 0 ≡ y =
+      get_or-set_same (set l next_column x) tests_column y 0 (omega (arith, g.long, length-set l next_column x)) in
       counts-kept l' (two-long l next_column x tests_column y) (λ k p q r. two-other l next_column x tests_column y k p r)
       (record {
         next_low = omega arith;
@@ -172,7 +179,8 @@ module _ (w n i : ℕ) (l : List ℕ) (g : Good w n i l) where
 
   -- a line that differs only in bytes 0 and 4
   exit-kept : (l' : List ℕ) → length l' ≡ length l → ((k : ℕ) → k ≢ status_column → k ≢ told_by_column → get_or l' k 0 ≡ get_or l k 0)
-      → (s : ℕ) → get_or l' status_column 0 ≡ s → s ≤ 3 → exit_rule n i s (get_or l' told_by_column 0) (get_or l rounds_ago_column 0) ≡ true → Good w n i l'
+      → (s : ℕ) → get_or l' status_column 0 ≡ s → s ≤ 3 → exit_rule n i s (get_or l' told_by_column 0) (get_or l rounds_ago_column 0) ≡ true
+      → Good w n i l'
   exit-kept l' long same s e low exits =
       record {
         wired = g.wired;
@@ -273,7 +281,8 @@ module _ (w n i : ℕ) (l : List ℕ) (g : Good w n i l) where
       pick : (k : ℕ) → k < n → Dec (k ≡ i) → get_or u k 0 ≤ 1
       pick k h (yes e) = rw e (omega (arith, own-byte))
       pick k h (no d) =
-          let e : get_or u k 0 ≡ max (get_or (row_of n l) k 0) (get_or r k 0) = union-at (row_of n l) r i k (omega (arith, rl)) ∙ union-others (row_of n l) r i k d in
+          let e : get_or u k 0 ≡ max (get_or (row_of n l) k 0) (get_or r k 0) =
+          union-at (row_of n l) r i k (omega (arith, rl)) ∙ union-others (row_of n l) r i k d in
           omega (arith, e, row_of-at n l k h, g.range k h, good-r.1 k h)
 
   -- a closing
@@ -287,7 +296,7 @@ module _ (w n i : ℕ) (l : List ℕ) (g : Good w n i l) where
     status = rw (same status_column (λ e. omega arith) (λ e. omega arith) (λ e. omega arith) (λ e. omega arith)) g.status;
     pass =
         rw (next, done, none)
-        (record { next_low = omega arith; next_high = end-pos w n i g.below; finished_range = omega arith; tests_bound = omega arith; finished_next = λ p. absurd (omega arith) });
+        (start-pass w n i g.below);
     exits =
         rw (
           same status_column (λ e. omega arith) (λ e. omega arith) (λ e. omega arith) (λ e. omega arith),
@@ -322,7 +331,8 @@ module _ (w n i : ℕ) (l : List ℕ) (g : Good w n i l) where
       long₃ : length l₃ ≡ stride n
       long₃ = length-set l₂ tests_column 0 ∙ long₂
 
-      same : (k : ℕ) → k ≢ next_column → k ≢ finished_column → k ≢ tests_column → k ≢ rounds_ago_column → get_or (set l₃ rounds_ago_column ago) k 0 ≡ get_or l k 0
+      same : (k : ℕ) → k ≢ next_column → k ≢ finished_column → k ≢ tests_column → k ≢ rounds_ago_column
+          → get_or (set l₃ rounds_ago_column ago) k 0 ≡ get_or l k 0
       same k a b c d =
           get_or-set_other l₃ rounds_ago_column k ago 0 d
           ∙ (get_or-set_other l₂ tests_column k 0 0 c ∙ (get_or-set_other l₁ finished_column k 0 0 b ∙ get_or-set_other l next_column k 1 0 a))
@@ -462,7 +472,7 @@ fresh-good w n i len e =
       status = omega (arith, status);
       pass =
           rw (next, done, tests)
-          (record { next_low = omega arith; next_high = end-pos w n i below; finished_range = omega arith; tests_bound = omega arith; finished_next = λ p. absurd (omega arith) });
+          (start-pass w n i below);
       exits = rw (status, by, ago) refl;
       own = fresh-row n i below;
       range = λ k h. omega (arith, fresh-row n k h);

@@ -1,21 +1,16 @@
 -- The next test by a line, on either wiring.
 -- Assumes nothing.
 use mathlib.Core.Path.{◌≡◌}
-use mathlib.Core.Bool.{◌&&◌}
 use mathlib.Core.List.{List}
 use Prim.Native.Nat.{ℕ, ◌-◌, ◌≤◌, ◌<◌}
 use native.Mathlib.Omega.{arith}
-use lib.Dec.{eqb}
 use lib.ListN.{length, get_or}
-use Rattle.lists.proofs.BoolLaws.{by_bool}
-use Rattle.lists.proofs.SearchLaws.{both, least-between, least-passes}
+use Rattle.lists.proofs.SearchLaws.{least-between, least-passes}
 use Rattle.table.specs.Table.{stride, next_column}
-use Rattle.table.specs.Wiring.{is_ring, end_distance}
+use Rattle.table.specs.Wiring.{end_distance}
 use Rattle.table.specs.Line.{row_of}
 use Rattle.table.proofs.LineLaws.{row_of-length}
-use Rattle.table.proofs.WiringLaws.{end_ring}
-use Rattle.station.specs.Outcome.{outcome_exchanged}
-use Rattle.station.specs.Wired.{wired_station, wired_due, next_after}
+use Rattle.station.specs.Wired.{wired_station, wired_due}
 use Rattle.station.proofs.WiredLaws.{station-present}
 use Rattle.board.specs.Board.{next_of}
 
@@ -33,9 +28,3 @@ module _ (w n i : ℕ) (l : List ℕ) where
   next-station long h below =
       station-present w (row_of n l) n i (next_of w n i l) (row_of-length n l long) h below
       (least-passes (wired_due w (row_of n l) i) (end_distance w n - next) next (omega (arith, next-low)))
-
--- after a test the next distance is greater than its distance, and the end distance at most
-pub next_after-between : (w n m o : ℕ) → m < end_distance w n → (m < next_after w n m o) × (next_after w n m o ≤ end_distance w n)
-unfolding next_after
-next_after-between w n m o h =
-    by_bool (is_ring w && eqb o outcome_exchanged) (λ e. rw e (omega (arith, end_ring w n (both _ _ e).0))) (λ e. rw e (omega arith))

@@ -52,7 +52,8 @@ bits-none f k zero none = refl
 bits-none f k (suc m) none =
     let a : f (k + 0) ≡ 0 = none 0 (omega arith) in
     let e : f (k + 0) ≡ f k = ap f (omega arith) in
-    let rest : bits f (suc k) m ≡ 0 = bits-none f (suc k) m (λ j h. let g : suc k + j ≡ k + suc j = omega arith in ap f g ∙ none (suc j) (omega arith)) in
+    let rest : bits f (suc k) m ≡ 0 =
+    bits-none f (suc k) m (λ j h. let g : suc k + j ≡ k + suc j = omega arith in ap f g ∙ none (suc j) (omega arith)) in
     omega (arith, a, e, rest)
 
 -- eight boards of which none is suspected
@@ -96,7 +97,8 @@ packed-at n r k h =
 pub back : (n from : ℕ) (r : List ℕ) → length r ≡ n → ((k : ℕ) → k < n → get_or r k 0 ≤ 1) → get_or r from 0 ≡ 0 → heard n from (pack n r) ≡ r
 back n from r long low own =
     let e = heard-length n from (pack n r) in
-    ext_get_or 0 (heard n from (pack n r)) r (e ∙ sym long) (λ k h. heard_at n from (pack n r) k (omega arith) ∙ pick k (omega arith) (ℕ_discrete k from))
+    ext_get_or 0 (heard n from (pack n r)) r (e ∙ sym long)
+    (λ k h. heard_at n from (pack n r) k (omega arith) ∙ pick k (omega arith) (ℕ_discrete k from))
   where
     pick : (k : ℕ) → k < n → Dec (k ≡ from) → heard_byte from (pack n r) k ≡ get_or r k 0
     pick k h (yes e) = rw e (heard-from from (pack n r) ∙ sym own)

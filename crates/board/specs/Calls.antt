@@ -66,11 +66,11 @@ abbrev pub replied_after : ℕ → ℕ → ℕ → List ℕ → List ℕ → Lis
 replied_after w n i l packed = unless_refused (replied_check w n i l (length packed)) l (turn_of w n i l (row_in w n i l packed))
 
 -- Rule Board, not replied: a turn without
-abbrev pub silent_answer : ℕ → ℕ → ℕ → List ℕ → Result ℕ Refusal
-silent_answer w n i l = turn_check w n i l and Ok (outcome w n i l None)
+abbrev pub not_replied_answer : ℕ → ℕ → ℕ → List ℕ → Result ℕ Refusal
+not_replied_answer w n i l = turn_check w n i l and Ok (outcome w n i l None)
 
-abbrev pub silent_after : ℕ → ℕ → ℕ → List ℕ → List ℕ
-silent_after w n i l = unless_refused (turn_check w n i l) l (turn_of w n i l None)
+abbrev pub not_replied_after : ℕ → ℕ → ℕ → List ℕ → List ℕ
+not_replied_after w n i l = unless_refused (turn_check w n i l) l (turn_of w n i l None)
 
 -- what is sent by board b: refusals to 10, then 9: there is no such board, or it is this one
 unfoldable pub sent_check : ℕ → ℕ → ℕ → List ℕ → ℕ → Check

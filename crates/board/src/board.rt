@@ -6,7 +6,8 @@ ghost use Rattle.table.specs.Line.{row_of};
 ghost use Rattle.table.specs.Table.{stride, tests_column};
 ghost use Rattle.table.specs.Wiring.{wiring_number};
 ghost use Rattle.station.specs.Outcome.{tested_byte, outcome_byte};
-ghost use Rattle.board.specs.Board.{next_of, next_station, tested, pass_finished, counted, left_told, joined, suspecting, alone, after_alone, outcome_of, after_outcome, tested_at, turn_of, outcome, round_closed};
+ghost use Rattle.board.specs.Board.{next_of, next_station, tested, pass_finished, counted, left_told, joined, suspecting, alone, after_alone};
+ghost use Rattle.board.specs.Board.{outcome_of, after_outcome, tested_at, turn_of, outcome, round_closed};
 ghost use Rattle.board.specs.Calls.{row_in};
 ghost use Rattle.board.specs.Packed.{heard};
 

@@ -2,7 +2,9 @@
 ghost use Rattle.std.specs.Prelude.{◌≡◌, length, option_map};
 ghost use Rattle.std.specs.Result.{result_map_both};
 ghost use Rattle.station.specs.Outcome.{outcome_byte};
-ghost use Rattle.board.specs.Calls.{place_check, line_check, row_check, sent_check, exchanged_check, fresh_after, next_answer, row_sent, replied_answer, replied_after, silent_answer, silent_after, told_after, exchanged_after, closed_after};
+ghost use Rattle.board.specs.Calls.{place_check, line_check, row_check, sent_check, exchanged_check, fresh_after, next_answer, row_sent};
+ghost use Rattle.board.specs.Calls.{replied_answer, replied_after, not_replied_answer, not_replied_after, told_after, exchanged_after};
+ghost use Rattle.board.specs.Calls.{closed_after};
 
 use crate::board::Board;
 use crate::packed::{self, Heard};
@@ -78,8 +80,8 @@ pub fn not_replied(
     line: &mut [u8],
 ) -> Result<Outcome, Refusal>
     ensures outcome { result_map_both (λ o. outcome_byte o) (λ r. r) result
-        ≡ silent_answer wiring n own.0 line.old }
-    ensures line_after { line.new ≡ silent_after wiring n own.0 line.old }
+        ≡ not_replied_answer wiring n own.0 line.old }
+    ensures line_after { line.new ≡ not_replied_after wiring n own.0 line.old }
 {
     let board = Board::checked(wiring, n, own, line.len())?;
     board.check_turn(line)?;

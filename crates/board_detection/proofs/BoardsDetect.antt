@@ -20,7 +20,8 @@ use Rattle.plant.specs.Run.{entries, start_check, start_refusal, go_on, run}
 use Rattle.plant.proofs.RunLaws.{accepted-number}
 use Rattle.detection.specs.Runs.{Call, Taken, call_of, after_run, after_runs, taken_from, taken_in, taken_all, taken_test, is_turn_of}
 use Rattle.detection.specs.Rounds.{count_taken, tests_in}
-use Rattle.detection.specs.Claim.{rounds_of, all_rounds, round_at, DetectionPremises, DetectionConclusion, Detection, square_rounds, triangle_rounds, worst_rounds}
+use Rattle.detection.specs.Claim.{rounds_of, all_rounds, round_at, DetectionPremises, DetectionConclusion, Detection, square_rounds}
+use Rattle.detection.specs.Claim.{triangle_rounds, worst_rounds}
 use Rattle.detection.proofs.Counting.{counts_start}
 use Rattle.detection.proofs.DetectionClaim.{detection-in-square, detection-in-triangle, detection-in-worst-case}
 use Rattle.cable.specs.Boards.{Lines, Hold, after_entries, table_of}

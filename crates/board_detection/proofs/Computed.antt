@@ -29,10 +29,12 @@ use Rattle.station.specs.Groups.{width, member}
 use Rattle.station.specs.Wired.{wired_station, wired_due, next_after}
 use Rattle.station.specs.Tests.{unsuspected, first_place, first, answer, due}
 use Rattle.station.specs.Rows.{union_byte, union, mark}
-use Rattle.board.specs.Board.{suspicion_of, next_of, tests, tested, next_station, pass_finished, counted, left_told, joined, suspecting, alone, after_alone, outcome_of, after_outcome, tested_at, turn_of, outcome, round_closed}
+use Rattle.board.specs.Board.{suspicion_of, next_of, tests, tested, next_station, pass_finished, counted, left_told, joined, suspecting, alone}
+use Rattle.board.specs.Board.{after_alone, outcome_of, after_outcome, tested_at, turn_of, outcome, round_closed}
 use Rattle.board.specs.Packed.{bits, packed_byte, pack, heard_byte, heard}
 use Rattle.board.specs.Calls.{line_rules, place_check, line_check, live_check, turn_check, replied_check, row_check, sent_check, exchanged_check}
-use Rattle.cable.specs.Boards.{Lines, reply_from, after_sending, after_turn, after_crash, after_act, all_finished, after_closing, after_entry, after_entries}
+use Rattle.cable.specs.Boards.{Lines, reply_from, after_sending, after_turn, after_crash, after_act, all_finished, after_closing, after_entry}
+use Rattle.cable.specs.Boards.{after_entries}
 use Rattle.board_detection.specs.Detect.{live_boards, BoardsBegin, TurnInTime, TurnsInTime, counts_by_round, count_of_tests}
 use Rattle.board_detection.specs.Example.{all_but, turns_of, cube_turns, ring_turns, FourBoards, FourOnRing}
 

@@ -76,10 +76,6 @@ steps-here n (suc m) t k long hm h = pick (steps-here n m t k long (omega arith)
         rw e (reset-here n m s (steps-length n m t ∙ long) hm ∙ ap round_closed (steps-behind n m t m long (omega arith) (omega arith)))
     pick rest (inr l) = reset-away n m s k (steps-length n m t ∙ long) (omega arith) (omega arith) ∙ rest l
 
-pub closed-length : (n : ℕ) (t : List ℕ) → length (reset_lines n t) ≡ length t
-unfolding reset_lines
-closed-length n t = steps-length n n t
-
 pub closed-line : (n : ℕ) (t : List ℕ) (k : ℕ) → length t ≡ table_length n → k < n → line n (reset_lines n t) k ≡ round_closed (line n t k)
 unfolding reset_lines
 closed-line n t k long h = steps-here n n t k long (omega arith) h

@@ -22,7 +22,8 @@ use Rattle.station.specs.Outcome.{outcome_exchanged}
 use Rattle.station.specs.Wired.{wired_station, next_after}
 use Rattle.station.specs.Rows.{union, self_or_suspected_by}
 use Rattle.station.proofs.UnionLaws.{union-length, union-at, union-others}
-use Rattle.board.specs.Board.{suspicion_of, next_of, tests, tested, turn_of, outcome, outcome_of, counted, joined, tested_at, after_outcome, after_alone, alone}
+use Rattle.board.specs.Board.{suspicion_of, next_of, tests, tested, turn_of, outcome, outcome_of, counted, joined, tested_at, after_outcome}
+use Rattle.board.specs.Board.{after_alone, alone}
 use Rattle.cable.proofs.RowsSent.{row_of-set, row_of-with}
 
 -- a turn that exchanges leaves the union as the tester's row, and leaves it live where neither suspects the other and the tested board not itself

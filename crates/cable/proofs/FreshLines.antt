@@ -1,31 +1,17 @@
 -- Fresh boards.
 -- Assumes nothing.
 use mathlib.Core.Path.{◌≡◌, sym, ◌∙◌}
-use Prim.Native.Nat.{ℕ, ◌+◌, ◌*◌, ◌<◌}
-use native.Mathlib.Omega.{arith}
-use lib.ListN.{length}
-use Rattle.std.proofs.lemmas.Nat.{mod-mul-add}
-use Rattle.std.proofs.Math.Nat.{mod-eq_of_lt}
+use Prim.Native.Nat.{ℕ, ◌<◌}
 use Rattle.lists.specs.Search.{list_of}
 use Rattle.lists.proofs.SearchLaws.{list_of-length, list_of-at}
-use Rattle.table.specs.Table.{stride, table_length, line_start, cell}
+use Rattle.table.specs.Table.{stride}
 use Rattle.table.specs.Line.{line}
 use Rattle.table.specs.Fresh.{fresh_byte, fresh_table}
-use Rattle.table.proofs.CellLaws.{line-inside}
+use Rattle.table.proofs.FreshLaws.{fresh-length, fresh-cell}
 use Rattle.table.proofs.LineLaws.{line_is}
 use Rattle.board.specs.Calls.{fresh_after}
 use Rattle.board.proofs.KeepsLaws.{good, fresh-is-one}
 use Rattle.cable.specs.Claims.{FreshBoards}
-
-fresh-length : (n : ℕ) → length (fresh_table n) ≡ table_length n
-unfolding fresh_table
-fresh-length n = list_of-length (fresh_byte n) (table_length n)
-
-fresh-cell : (n i c : ℕ) → i < n → c < stride n → cell n (fresh_table n) i c ≡ fresh_byte n c
-unfolding cell line_start fresh_table fresh_byte
-fresh-cell n i c h hc =
-    let inside : i * stride n + c < table_length n = omega (arith, line-inside n i h) in
-    list_of-at (fresh_byte n) (table_length n) (i * stride n + c) inside ∙ rw (mod-mul-add i (stride n) c hc, mod-eq_of_lt hc)
 
 pub fresh-line : (n i : ℕ) → i < n → line n (fresh_table n) i ≡ list_of (fresh_byte n) (stride n)
 fresh-line n i h =

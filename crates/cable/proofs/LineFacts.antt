@@ -12,7 +12,8 @@ use Rattle.std.specs.Prelude.{Ok}
 use Rattle.lists.proofs.BoolLaws.{every-same}
 use Rattle.lists.proofs.RefusalLaws.{ensure_ok, and_ok}
 use Rattle.lists.proofs.SearchLaws.{every-at}
-use Rattle.table.specs.Table.{head, stride, table_length, status_column, next_column, finished_column, tests_column, told_by_column, rounds_ago_column}
+use Rattle.table.specs.Table.{head, stride, table_length, status_column, next_column, finished_column, tests_column, told_by_column}
+use Rattle.table.specs.Table.{rounds_ago_column}
 use Rattle.table.specs.Line.{line}
 use Rattle.table.specs.Rules.{wired_line_rules, row_rule}
 use Rattle.table.specs.Sizes.{is_size}

@@ -14,7 +14,8 @@ use lib.Seq.{get_or-set_other}
 use Rattle.std.specs.Prelude.{Option, None, Ok, Err}
 use Rattle.lists.specs.Refusal.{Check, unless_refused}
 use Rattle.lists.proofs.BoolLaws.{by_bool}
-use Rattle.table.specs.Table.{table_length, status_column, next_column, finished_column, tests_column, rounds_ago_column, status_crashed, status, finished, live}
+use Rattle.table.specs.Table.{table_length, status_column, next_column, finished_column, tests_column, rounds_ago_column, status_crashed, status}
+use Rattle.table.specs.Table.{finished, live}
 use Rattle.table.specs.Line.{line, is_live}
 use Rattle.table.specs.Rules.{round_over, numbered_table_refusal}
 use Rattle.table.specs.Sizes.{is_size}
@@ -34,12 +35,14 @@ use Rattle.plant.proofs.RunLaws.{accepted-number, start-facts}
 use Rattle.plant.proofs.RulesKept.{Takes, entry-facts, acted-lines, accepted-kept}
 use Rattle.board.specs.Board.{round_closed}
 use Rattle.board.specs.Calls.{line_check, closed_after}
-use Rattle.cable.specs.Boards.{Lines, reply_from, tested_by, reply_to_test, tester_after, tester_answer, after_sending, after_turn, after_crash, after_act, after_closing, after_entry, after_entries, entry_line, sheet_after, Hold, BoardsDoTheRun}
+use Rattle.cable.specs.Boards.{Lines, reply_from, tested_by, reply_to_test, tester_after, tester_answer, after_sending, after_turn, after_crash}
+use Rattle.cable.specs.Boards.{after_act, after_closing, after_entry, after_entries, entry_line, sheet_after, Hold, BoardsDoTheRun}
 use Rattle.cable.proofs.TurnByLines.{tested-below, none-tested}
 use Rattle.cable.proofs.ClosingByLines.{closed-line}
 use Rattle.cable.proofs.LineFacts.{line-ok}
 use Rattle.cable.proofs.HoldLaws.{HoldsOne, held, holds, live-same, kept, over-same}
-use Rattle.cable.proofs.CallsOnCable.{row-ok, live-ok, packed_reply, asks, asks-nobody, leaves, answers, idle-leaves, idle-answers, answering, told-leaves, row-sent, exchanged-leaves, others-keep}
+use Rattle.cable.proofs.CallsOnCable.{row-ok, live-ok, packed_reply, asks, asks-nobody, leaves, answers, idle-leaves, idle-answers, answering}
+use Rattle.cable.proofs.CallsOnCable.{told-leaves, row-sent, exchanged-leaves, others-keep}
 
 -- a turn of a live board
 module _ (w n : ℕ) (t : List ℕ) (b : Lines) (hold : Hold n t b) (z : numbered_table_refusal w n t ≡ 0) (kind i : ℕ) (h : i < n)

@@ -12,7 +12,8 @@ use lib.ListN.{length, set, length-set}
 use Rattle.std.specs.Prelude.{Option}
 use Rattle.lists.proofs.BoolLaws.{by_bool, every-same}
 use Rattle.table.specs.Wiring.{end_distance}
-use Rattle.table.specs.Table.{head, stride, table_length, cell, set_cell, status_column, next_column, finished_column, tests_column, told_by_column, next_distance, tests_made, row, set_row, status_told, status_alone}
+use Rattle.table.specs.Table.{head, stride, table_length, cell, set_cell, status_column, next_column, finished_column, tests_column, told_by_column}
+use Rattle.table.specs.Table.{next_distance, tests_made, row, set_row, status_told, status_alone}
 use Rattle.table.proofs.Accepting.{accepted}
 use Rattle.table.proofs.SizeLaws.{size_top}
 use Rattle.table.proofs.CellLaws.{row_same, row-length, row_at, set_cell-length, set_row-length, accepted-line}
@@ -21,12 +22,14 @@ use Rattle.station.specs.Rows.{union, mark}
 use Rattle.station.specs.Outcome.{outcome_exchanged, outcome_told, outcome_tested_told}
 use Rattle.station.proofs.UnionLaws.{union-length}
 use Rattle.station.proofs.WiredLaws.{station-apart}
-use Rattle.plant.specs.Turn.{leave_told, next_test, makes_test, finish_pass, count_test, replies, is_told, exchange_rows, suspect, reply_outcome, test_outcome, after_test, self_or_suspected, is_alone, outcome_at, testing, turn, turn_tested, turn_outcome}
+use Rattle.plant.specs.Turn.{leave_told, next_test, makes_test, finish_pass, count_test, replies, is_told, exchange_rows, suspect, reply_outcome}
+use Rattle.plant.specs.Turn.{test_outcome, after_test, self_or_suspected, is_alone, outcome_at, testing, turn, turn_tested, turn_outcome}
 use Rattle.plant.specs.Turn.{after_outcome as table_outcome, after_alone as table_alone}
 use Rattle.plant.proofs.NextTest.{next_test-low, test_below, test-station}
 use Rattle.plant.proofs.StepCells.{count_test-length, count_test-other, finish_pass-length, leave_told-length, suspect-length, exchange-length}
 use Rattle.table.specs.Line.{line, with_row}
-use Rattle.board.specs.Board.{next_of, tests, tested, pass_finished, counted, left_told, joined, suspecting, alone, after_alone, outcome_of, row_given, after_outcome, tested_at, turn_of, outcome, message, received}
+use Rattle.board.specs.Board.{next_of, tests, tested, pass_finished, counted, left_told, joined, suspecting, alone, after_alone, outcome_of}
+use Rattle.board.specs.Board.{row_given, after_outcome, tested_at, turn_of, outcome, message, received}
 use Rattle.cable.specs.Claims.{answered, reply_to, SameTurn, BoardsDoTheTurn}
 use Rattle.table.proofs.LineLaws.{line_at, line-row, line-set, line-set-other, line-set_row, line-set_row-other}
 

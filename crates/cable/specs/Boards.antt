@@ -14,7 +14,7 @@ use Rattle.plant.specs.Turn.{kind_turn}
 use Rattle.plant.specs.Entry.{Entry, State, is_crash}
 use Rattle.plant.specs.Run.{RunResult, entries, write_line, run}
 use Rattle.board.specs.Packed.{packed_length}
-use Rattle.board.specs.Calls.{line_check, next_answer, row_sent, replied_answer, replied_after, silent_answer, silent_after, told_after}
+use Rattle.board.specs.Calls.{line_check, next_answer, row_sent, replied_answer, replied_after, not_replied_answer, not_replied_after, told_after}
 use Rattle.board.specs.Calls.{exchanged_after, closed_after}
 
 -- the lines that the boards hold
@@ -45,11 +45,11 @@ reply_to_test w n b kind i = reply_from w n b kind (next_answer w n i (b i))
 
 -- the tester's call, board replied or board not replied: what it leaves and what it answers
 abbrev pub tester_after : ℕ → ℕ → ℕ → List ℕ → Option (List ℕ) → List ℕ
-tester_after w n i l None = silent_after w n i l
+tester_after w n i l None = not_replied_after w n i l
 tester_after w n i l (Some packed) = replied_after w n i l packed
 
 abbrev pub tester_answer : ℕ → ℕ → ℕ → List ℕ → Option (List ℕ) → Result ℕ Refusal
-tester_answer w n i l None = silent_answer w n i l
+tester_answer w n i l None = not_replied_answer w n i l
 tester_answer w n i l (Some packed) = replied_answer w n i l packed
 
 -- what board k, tested by board i, makes of its line l by what i's call answers: it is told, or it gets the row of `mine`, the line that i's call

@@ -22,7 +22,8 @@ use Rattle.plant.proofs.NextTest.{next_test-low, test_below, test-station}
 use Rattle.plant.specs.Entry.{Entry, State, is_crash, acted, after}
 use Rattle.table.proofs.CellLaws.{TurnCounts}
 use Rattle.plant.proofs.RoundLaws.{Reset, reset-other}
-use Rattle.plant.proofs.StepLines.{Lines, next_after-between}
+use Rattle.station.proofs.WiredLaws.{next_after-between}
+use Rattle.plant.proofs.StepLines.{Lines}
 use Rattle.lists.specs.Sums.{sum_below, bit}
 use Rattle.detection.specs.Runs.{Taken, table_after, is_turn_of, taken_test}
 use Rattle.detection.specs.Rounds.{any_taken, count_taken, closes, finishes_of, finished_or_not_live, tests_in, turns_in, nth_turn_finishes}

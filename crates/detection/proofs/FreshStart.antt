@@ -13,14 +13,14 @@ use Rattle.table.specs.Sizes.{is_size}
 use Rattle.table.specs.Table.{head, stride, table_length, line_start, cell, status_column, next_column, finished_column, tests_column, told_by_column, told_by_none, rounds_ago_column, suspects, live, status}
 use Rattle.table.specs.Rules.{exit_rule, wired_line_rules, numbered_table_refusal}
 use Rattle.table.specs.Wiring.{wiring_check}
-use Rattle.table.proofs.WiringLaws.{end-pos}
 use Rattle.std.specs.Prelude.{Ok}
 use Rattle.table.specs.Fresh.{fresh_byte, fresh_table}
 use Rattle.lists.proofs.SearchLaws.{every-all, list_of-length, list_of-at}
 use Rattle.lists.specs.Sums.{bit}
 use Rattle.lists.proofs.SumLaws.{sum_by, sum-const}
 use Rattle.table.proofs.SizeLaws.{size-bounds}
-use Rattle.table.proofs.CellLaws.{line-inside, Line, line-holds}
+use Rattle.table.proofs.FreshLaws.{fresh-length, fresh-byte, fresh-cell}
+use Rattle.table.proofs.CellLaws.{start-pass, line-inside, Line, line-holds}
 use Rattle.plant.proofs.RulesKept.{unfinished-open}
 use Rattle.plant.proofs.RunLaws.{accepted-number}
 use Rattle.table.specs.Properties.{line_at_start, at_start, live_count, none_suspected, no_live_suspicion}
@@ -29,29 +29,24 @@ use Rattle.detection.specs.Rounds.{all_taken}
 use Rattle.detection.specs.Claim.{FreshMeetsPremises}
 
 -- a fresh line: next distance 1, byte 4 255, and all else 0
-fresh-cell : (n i c : ℕ) → i < n → c < stride n → cell n (fresh_table n) i c ≡ cond (eqb c next_column) 1 (cond (eqb c told_by_column) told_by_none 0)
-unfolding cell fresh_table fresh_byte line_start
-fresh-cell n i c h g =
-    list_of-at (fresh_byte n) (table_length n) (line_start n i + c) (omega (arith, line-inside n i h)) ∙ rw place
-  where
-    place : (line_start n i + c) % stride n ≡ c
-    place = mul-add-mod_self_right i (stride n) c ∙ mod-eq_of_lt g
+fresh-at : (n i c : ℕ) → i < n → c < stride n → cell n (fresh_table n) i c ≡ cond (eqb c next_column) 1 (cond (eqb c told_by_column) told_by_none 0)
+fresh-at n i c h g = fresh-cell n i c h g ∙ fresh-byte n c g
 
 fresh-row : (n i k : ℕ) → i < n → k < n → suspects n (fresh_table n) i k ≡ 0
 fresh-row n i k g l =
-    fresh-cell n i (head + k) g (omega arith) ∙ rw (ne_eqb (head + k) next_column (λ e. omega arith), ne_eqb (head + k) told_by_column (λ e. omega arith))
+    fresh-at n i (head + k) g (omega arith) ∙ rw (ne_eqb (head + k) next_column (λ e. omega arith), ne_eqb (head + k) told_by_column (λ e. omega arith))
 
 fresh-live : (n i : ℕ) → i < n → live n (fresh_table n) i ≡ true
-fresh-live n i h = eq-eqb (status n (fresh_table n) i) 0 (fresh-cell n i status_column h (omega arith))
+fresh-live n i h = eq-eqb (status n (fresh_table n) i) 0 (fresh-at n i status_column h (omega arith))
 
 fresh-line : (w n i : ℕ) → i < n → Line w n (fresh_table n) i
 unfolding exit_rule
 fresh-line w n i g = record {
-  status_range = omega (arith, fresh-cell n i status_column g (omega arith));
-  pass = rw (fresh-cell n i next_column g (omega arith), fresh-cell n i finished_column g (omega arith), fresh-cell n i tests_column g (omega arith))
-      (record { next_low = omega arith; next_high = end-pos w n i g; finished_range = omega arith; tests_bound = omega arith; finished_next = λ e. absurd (omega arith) });
+  status_range = omega (arith, fresh-at n i status_column g (omega arith));
+  pass = rw (fresh-at n i next_column g (omega arith), fresh-at n i finished_column g (omega arith), fresh-at n i tests_column g (omega arith))
+      (start-pass w n i g);
   exits =
-      rw (fresh-cell n i status_column g (omega arith), fresh-cell n i told_by_column g (omega arith), fresh-cell n i rounds_ago_column g (omega arith));
+      rw (fresh-at n i status_column g (omega arith), fresh-at n i told_by_column g (omega arith), fresh-at n i rounds_ago_column g (omega arith));
   own = fresh-row n i i g g;
   range = λ k l. omega (arith, fresh-row n i k g l);
 }
@@ -60,19 +55,15 @@ module _ (n : ℕ) where
   abbrev t : List ℕ
   t = fresh_table n
 
-  fresh-long : length t ≡ table_length n
-  unfolding fresh_table
-  fresh-long = list_of-length (fresh_byte n) (table_length n)
-
   -- it passes refusals 1 to 4
   pub fresh-accepted : (w : ℕ) → wiring_check w ≡ Ok tt → is_size n ≡ true → numbered_table_refusal w n t ≡ 0
   fresh-accepted w wired size =
       accepted-number w n t (record {
         wired = wired;
         size = size;
-        long = fresh-long;
+        long = fresh-length n;
         lines = every-all (wired_line_rules w n t) n (λ i h. line-holds w n t i (fresh-line w n i h));
-        unclosed = unfinished-open n t (λ i h. fresh-cell n i finished_column h (omega arith));
+        unclosed = unfinished-open n t (λ i h. fresh-at n i finished_column h (omega arith));
       })
 
   -- it stands at the start of a round
@@ -80,9 +71,9 @@ module _ (n : ℕ) where
   unfolding at_start
   fresh_start =
       every-all (line_at_start n t) n (λ i h.
-      let next = fresh-cell n i next_column h (omega arith) in
-      let finish = fresh-cell n i finished_column h (omega arith) in
-      rw (next, finish, fresh-cell n i tests_column h (omega arith)))
+      let next = fresh-at n i next_column h (omega arith) in
+      let finish = fresh-at n i finished_column h (omega arith) in
+      rw (next, finish, fresh-at n i tests_column h (omega arith)))
 
   -- all are live, and none suspects another
   all_live : live_count n t ≡ n
@@ -99,7 +90,7 @@ unfolding all_taken taken_all
 fresh-premises w n rounds tests wired size = record {
   wiring = wired;
   size = size;
-  long = fresh-long n;
+  long = fresh-length n;
   start = fresh_start n;
   two_live = omega (arith, all_live n, size-bounds n size);
   accurate = none-suspected n;

@@ -1,6 +1,7 @@
 // What is claimed of lists of runs and of drives (specs/), each a clause of a function that does nothing.
 
-ghost use Rattle.detection.specs.Claim.{DetectionInSquare, DetectionInTriangle, Detection, square_rounds, triangle_rounds, worst_rounds, FreshIsAccepted, FreshMeetsPremises};
+ghost use Rattle.detection.specs.Claim.{DetectionInSquare, DetectionInTriangle, Detection, square_rounds, triangle_rounds, worst_rounds};
+ghost use Rattle.detection.specs.Claim.{FreshIsAccepted, FreshMeetsPremises};
 ghost use Rattle.detection.specs.Boards.{ExactRoundTests, ExactRoundTestsAfterLatency};
 ghost use Rattle.detection.specs.Driven.{DriveIsTurns, MixedDetection, DrivenDetectionInSquare, DrivenDetection};
 ghost use Rattle.detection.specs.Exits.{ReplyEnds};
@@ -50,7 +51,7 @@ pub fn driven()
 // Who leaves after a test with a reply (specs/Exits.antt).
 pub fn exits()
     // Where a tested station replies: by who suspects whom, which of the two leaves, and what becomes of the rows.
-    ensures reply_ends { ReplyEnds }
+    ensures { ReplyEnds }
 {}
 
 // Bytes 4 and 5 of a line: who told a station to leave, and how many rounds ago it ceased to be live (specs/Ceased.antt).

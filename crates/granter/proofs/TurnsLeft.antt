@@ -20,7 +20,8 @@ use Rattle.station.proofs.Presence.{standing, standing-all, standing-more, stand
 use Rattle.plant.specs.Turn.{next_test, makes_test, outcome_at, turn}
 use Rattle.station.specs.Wired.{next_after}
 use Rattle.plant.proofs.NextTest.{next_test-low, test_below, test-station}
-use Rattle.plant.proofs.StepLines.{Lines, next_after-between}
+use Rattle.station.proofs.WiredLaws.{next_after-between}
+use Rattle.plant.proofs.StepLines.{Lines}
 use Rattle.plant.proofs.TurnHeads.{Heads, turn-heads}
 
 -- a test at each present distance from the next one on, and the turn that finishes: the station itself stands at distance 0

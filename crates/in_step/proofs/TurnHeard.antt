@@ -255,9 +255,6 @@ module _ (w n : ℕ) (s : State) (a : Accepted w n s.table) (e : Entry) (taken :
 
     -- in a turn
     module _ (c : is_crash e ≡ false) (apart : k ≢ i) where
-      same_turn : SameTurn w n t e.kind i
-      same_turn = same-turn w n t e.kind i (accepted-number w n t a) takes.below
-
       acts : acted w n t e ≡ turn w n t e.kind i
       unfolding acted
       acts = rw c

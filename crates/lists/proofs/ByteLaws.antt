@@ -37,7 +37,8 @@ unfolding joined_byte
 joined-byte a b k x v e f = rw e at f
 
 -- past the other list's end the bytes stay as they are
-pub joined-filled : (a b : List ℕ) (k : ℕ) (t : List ℕ) → t ≡ sets a 0 (list_of (joined_byte a b) k) → k ≡ min (length a) (length b) → t ≡ joined_bytes a b
+pub joined-filled : (a b : List ℕ) (k : ℕ) (t : List ℕ) → t ≡ sets a 0 (list_of (joined_byte a b) k) → k ≡ min (length a) (length b)
+    → t ≡ joined_bytes a b
 unfolding joined_bytes joined_byte
 joined-filled a b k t e m =
     fill-rest (joined_byte a b) k a t e (omega arith)
@@ -56,7 +57,8 @@ into-is : (a b out : List ℕ) → length a ≡ length b → length a ≤ length
 unfolding with_joined
 into-is a b out e h = rw (eq-eqb (length a) (length b) e, le-leb (length a) (length out) h)
 
-pub into-fits : (a b out : List ℕ) → length a ≡ length b → length a ≤ length out → with_joined a b out ≡ joined_bytes a b ++ drop (length (joined_bytes a b)) out
+pub into-fits : (a b out : List ℕ) → length a ≡ length b → length a ≤ length out
+    → with_joined a b out ≡ joined_bytes a b ++ drop (length (joined_bytes a b)) out
 into-fits a b out e h = into-is a b out e h ∙ sets-front out (joined_bytes a b) (omega (arith, joined_length a b))
 
 pub into-filled : (a b out : List ℕ) (k : ℕ) (t : List ℕ) → length a ≡ length b → length a ≤ length out → t ≡ sets out 0 (list_of (joined_byte a b) k)

@@ -58,19 +58,23 @@ fill-ahead f k l t e = rw e (sets-ahead l (list_of f k) 0 k (omega (arith, list_
 pub fill-next : (f : ℕ → ℕ) (k : ℕ) (l t : List ℕ) (v : ℕ) → t ≡ sets l 0 (list_of f k) → v ≡ f k → set t k v ≡ sets l 0 (list_of f (k + 1))
 fill-next f k l t v e w = rw (add-one, list_of-suc f k, w) (sets-next l (list_of f k) t k (f k) (sym (list_of-length f k)) e)
 
-pub fill_done : (f : ℕ → ℕ) (k n : ℕ) (l t : List ℕ) → t ≡ sets l 0 (list_of f k) → length t ≡ length l → length l ≡ n → k ≤ length l → length t ≤ k → t ≡ list_of f n
+pub fill_done : (f : ℕ → ℕ) (k n : ℕ) (l t : List ℕ) → t ≡ sets l 0 (list_of f k) → length t ≡ length l → length l ≡ n → k ≤ length l → length t ≤ k
+    → t ≡ list_of f n
 fill_done f k n l t e s w a b =
     let x : k ≡ n = omega arith in
     e ∙ rw x (sets-all l (list_of f n) (w ∙ sym (list_of-length f n)))
 
 -- a loop that stops early, where what is not yet written is right as it is
-pub fill-rest : (f : ℕ → ℕ) (k : ℕ) (l t : List ℕ) → t ≡ sets l 0 (list_of f k) → k ≤ length l → ((y : ℕ) → k ≤ y → y < length l → get_or l y 0 ≡ f y) → t ≡ list_of f (length l)
+pub fill-rest : (f : ℕ → ℕ) (k : ℕ) (l t : List ℕ) → t ≡ sets l 0 (list_of f k) → k ≤ length l
+    → ((y : ℕ) → k ≤ y → y < length l → get_or l y 0 ≡ f y) → t ≡ list_of f (length l)
 fill-rest f k l t e h same =
     let s : k + (length l - k) ≡ length l = omega arith in
-    let g : sets l 0 (list_of f k) ≡ list_of f k ++ drop k l = sets-front l (list_of f k) (omega (arith, list_of-length f k)) ∙ rw (list_of-length f k) in
+    let g : sets l 0 (list_of f k) ≡ list_of f k ++ drop k l =
+    sets-front l (list_of f k) (omega (arith, list_of-length f k)) ∙ rw (list_of-length f k) in
     let d : drop k l ≡ list_of (λ y. f (k + y)) (length l - k) =
     ext_get_or 0 (drop k l) (list_of (λ y. f (k + y)) (length l - k)) (length-drop k l ∙ sym (list_of-length (λ y. f (k + y)) (length l - k)))
-    (λ y b. let hy : y < length l - k = subst (λ (x : ℕ). y < x) (length-drop k l) b in get_or-drop k l y 0 ∙ same (k + y) (omega arith) (omega arith) ∙ sym (list_of-at (λ z. f (k + z)) (length l - k) y hy)) in
+    (λ y b. let hy : y < length l - k = subst (λ (x : ℕ). y < x) (length-drop k l) b in
+    get_or-drop k l y 0 ∙ same (k + y) (omega arith) (omega arith) ∙ sym (list_of-at (λ z. f (k + z)) (length l - k) y hy)) in
     e ∙ g ∙ ap (λ x. list_of f k ++ x) d ∙ sym (list_of-append f k (length l - k)) ∙ ap (list_of f) s
 
 pub ruleset loops = (every-start, every-next, every-stop, every-done, fill_start, fill-next, fill_done)

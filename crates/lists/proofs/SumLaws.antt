@@ -94,7 +94,8 @@ sum-xor f (suc d) m h =
     half : ℕ → ℕ → ℕ
     half a c = sum_below (λ i. f (bit_xor a c * 2 ^ d + i)) (2 ^ d)
 
-    at : ((g : ℕ → ℕ) (k : ℕ) → k < 2 ^ d → sum_below (λ i. g (bit_xor i k)) (2 ^ d) ≡ sum_below g (2 ^ d)) → (c k : ℕ) → k < 2 ^ d → c * 2 ^ d + k ≡ m
+    at : ((g : ℕ → ℕ) (k : ℕ) → k < 2 ^ d → sum_below (λ i. g (bit_xor i k)) (2 ^ d) ≡ sum_below g (2 ^ d)) → (c k : ℕ) → k < 2 ^ d
+        → c * 2 ^ d + k ≡ m
         → half 0 c + half 1 c ≡ half 0 0 + half 1 0 → sum_below (λ i. f (bit_xor i m)) (2 ^ suc d) ≡ sum_below f (2 ^ suc d)
     at rest c k l e swap =
         let halves : (a : ℕ) → sum_below (λ i. f (bit_xor (a * 2 ^ d + i) (c * 2 ^ d + k))) (2 ^ d) ≡ half a c =

@@ -20,7 +20,8 @@ pub sets-next : (l xs t : List ℕ) (count v : ℕ) → count ≡ length xs → 
 sets-next l xs t count v c e = rw (sets_more l xs 0 v, zero-add, ← c, ← e)
 
 -- two more
-pub sets-two : (l xs t : List ℕ) (count v w : ℕ) → count ≡ length xs → t ≡ sets l 0 xs → set (set t count v) (count + 1) w ≡ sets l 0 (xs ++ (v ∷ w ∷ []))
+pub sets-two : (l xs t : List ℕ) (count v w : ℕ) → count ≡ length xs → t ≡ sets l 0 xs
+    → set (set t count v) (count + 1) w ≡ sets l 0 (xs ++ (v ∷ w ∷ []))
 sets-two l xs t count v w c e =
     let longer : count + 1 ≡ length (xs ++ (v ∷ [])) = omega (arith, length-append xs (v ∷ [])) in
     sets-next l (xs ++ (v ∷ [])) (set t count v) (count + 1) w longer (sets-next l xs t count v c e) ∙ rw append_assoc

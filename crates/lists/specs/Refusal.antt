@@ -3,7 +3,10 @@
 use Rattle.std.specs.Prelude.{ℕ, Bool, List, codes, Option, None, Some, Result, Ok, Err, ◌==◌, if◌then◌else◌}
 use Rattle.std.specs.Result.{result_and}
 use Rattle.lists.specs.declared.refusal.Refusal.{Refusal}
-use Rattle.lists.specs.declared.refusal.Refusal.TheVariants.{SizeOutOfRange, TableLength, LineRule, RoundNotClosed, ScheduleLength, SheetLength, TallyFull, UnknownKind, NoSuchStation, NotLive, PassFinished, NoSuchLevel, ListLength, NoResult, TooManyResults, LastGranted, NoneLive, FieldPastEnd, SizeOrTallyField, LineField}
+use Rattle.lists.specs.declared.refusal.Refusal.TheVariants.{SizeOutOfRange, TableLength, LineRule, RoundNotClosed, ScheduleLength, SheetLength}
+use Rattle.lists.specs.declared.refusal.Refusal.TheVariants.{TallyFull, UnknownKind, NoSuchStation, NotLive, PassFinished, NoSuchLevel, ListLength}
+use Rattle.lists.specs.declared.refusal.Refusal.TheVariants.{NoResult, TooManyResults, LastGranted, NoneLive, FieldPastEnd, SizeOrTallyField}
+use Rattle.lists.specs.declared.refusal.Refusal.TheVariants.{LineField}
 use Rattle.lists.specs.declared.refusal.Refusal.TheVariants.{NoOpening, FieldOrder, ReportTooShort, NoSuchWiring, LineLength}
 
 -- its number in the refusal list

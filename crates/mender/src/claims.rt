@@ -1,6 +1,7 @@
 // What is claimed of mending (specs/Claims.antt): each claim is a clause of a function that does nothing.
 
-ghost use Rattle.mender.specs.Claims.{MendedPasses, MendedOnce, GoodTableStays, ListedIsTrue, UnlistedStays, ReportHasRoom, StatusStays, NoSuspicionInvented};
+ghost use Rattle.mender.specs.Claims.{MendedPasses, MendedOnce, GoodTableStays, ListedIsTrue, UnlistedStays, ReportHasRoom, StatusStays};
+ghost use Rattle.mender.specs.Claims.{NoSuspicionInvented};
 
 // Of tables and lists of changes (specs/Claims.antt).
 pub fn mending()

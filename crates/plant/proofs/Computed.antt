@@ -11,7 +11,9 @@ use Rattle.table.specs.Rules.{exit_rule, row_rule, wired_line_rules, some_live, 
 use Rattle.table.specs.Fresh.{fresh_byte, fresh_table}
 use Rattle.station.specs.Wired.{wired_station, wired_due}
 use Rattle.station.specs.Rows.{union_byte, union, mark}
-use Rattle.plant.specs.Turn.{leave_told, next_test, makes_test, finish_pass, count_test, replies, is_told, exchange_rows, suspect, reply_outcome, test_outcome, after_outcome, self_or_suspected, is_alone, after_alone, after_test, testing, turn, turn_tested, turn_outcome, crash}
+use Rattle.plant.specs.Turn.{leave_told, next_test, makes_test, finish_pass, count_test, replies, is_told, exchange_rows, suspect, reply_outcome}
+use Rattle.plant.specs.Turn.{test_outcome, after_outcome, self_or_suspected, is_alone, after_alone, after_test, testing, turn, turn_tested}
+use Rattle.plant.specs.Turn.{turn_outcome, crash}
 use Rattle.station.specs.Wired.{next_after}
 use Rattle.plant.specs.Round.{rounds_after, reset_line, reset_lines, after_round}
 use Rattle.plant.specs.Entry.{entry_check, acted, after, tested_of, outcome_of, sheet_line}

@@ -48,7 +48,8 @@ module _ (w n : ℕ) (t : List ℕ) (i : ℕ) where
   pub test-due : makes_test w n t i ≡ true → wired_due w (row n t i) i (next_test w n t i) ≡ true
   unfolding next_test
   test-due e =
-      least-passes (wired_due w (row n t i) i) (end_distance w n - next_distance n t i) (next_distance n t i) (omega (arith, test_below e, next_test-low))
+      least-passes (wired_due w (row n t i) i) (end_distance w n - next_distance n t i) (next_distance n t i)
+      (omega (arith, test_below e, next_test-low))
 
   -- a station stands there
   pub test-station : makes_test w n t i ≡ true → length t ≡ table_length n → i < n → wired_station w n i (next_test w n t i) < n

@@ -8,13 +8,13 @@ use Prim.Native.Nat.{ℕ, zero, suc, ◌+◌, ◌≤◌, ◌<◌}
 use native.Mathlib.Nat.{eq-or-lt_of_le, le_of_suc-le-suc}
 use native.Mathlib.Omega.{arith}
 use lib.ListN.{length}
-use Rattle.table.specs.Table.{head, stride, table_length, cell, set_cell, next_column, finished_column, tests_column, rounds_ago_column, told_by_column, next_distance, finished, tests_made, told_by, rounds_ago, status, status_column, live}
-use Rattle.table.proofs.CellLaws.{cell_same, cell_other, set_cell-length, ClosingChanges}
+use Rattle.table.specs.Table.{head, stride, table_length, cell, set_cell, next_column, finished_column, tests_column, rounds_ago_column}
+use Rattle.table.specs.Table.{told_by_column, next_distance, finished, tests_made, told_by, rounds_ago, status, status_column, live}
+use Rattle.table.proofs.CellLaws.{start-pass, cell_same, cell_other, set_cell-length, ClosingChanges}
 use Rattle.table.specs.Rules.{exit_rule}
 use Rattle.lists.specs.Steps.{after_steps}
 use Rattle.lists.proofs.BoolLaws.{by_bool}
 use Rattle.plant.specs.Round.{rounds_after, reset_line, reset_lines}
-use Rattle.table.proofs.WiringLaws.{end-pos}
 use Rattle.plant.proofs.StepLines.{Lines}
 
 -- the line as the round rule leaves it, but for byte 5
@@ -149,7 +149,7 @@ reset-lines w n t lines = (
       record {
         status_range = rw (reset-other n t k status_column (omega arith) (λ p. omega arith)) l.status_range;
         pass = rw (r.next, r.unfinished, r.untested)
-            (record { next_low = omega arith; next_high = end-pos w n k h; finished_range = omega arith; tests_bound = omega arith; finished_next = λ p. absurd (omega arith) });
+            (start-pass w n k h);
         exits =
             let s = reset-other n t k status_column (omega arith) (λ p. omega arith) in
             let b = reset-other n t k told_by_column (omega arith) (λ p. omega arith) in

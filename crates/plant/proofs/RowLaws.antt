@@ -33,7 +33,8 @@ unfolding set_row row
 set_row-same n t i = rw (take-append-drop n (drop (row_start n i) t), take-append-drop (row_start n i) t)
 
 -- a row joined with the union of two rows, of which it is the one or the other
-union-twice : (r o u : List ℕ) (n own : ℕ) → length r ≡ n → ((k : ℕ) → k < n → get_or u k 0 ≡ max (get_or r k 0) (get_or o k 0)) → union r u own ≡ union r o own
+union-twice : (r o u : List ℕ) (n own : ℕ) → length r ≡ n → ((k : ℕ) → k < n → get_or u k 0 ≡ max (get_or r k 0) (get_or o k 0))
+    → union r u own ≡ union r o own
 unfolding union joined_byte
 union-twice r o u n own w e = list_of-same _ _ (length r) (λ k h. pick k (omega arith) (ℕ_discrete k own))
   where
@@ -47,11 +48,14 @@ union-twice r o u n own w e = list_of-same _ _ (length r) (λ k h. pick k (omega
 pub same-exchange : (n : ℕ) (t : List ℕ) (i j : ℕ) → row n t i ≡ row n t j → t ≡ exchange_rows n t i j
 unfolding exchange_rows joined_byte
 same-exchange n t i j w =
-    let s : set_row n t i (union (row n t i) (row n t j) i) ≡ t = ap (set_row n t i) (ap (λ (r : List ℕ). union (row n t i) r i) (sym w) ∙ union_self (row n t i) i) ∙ set_row-same n t i in
+    let s : set_row n t i (union (row n t i) (row n t j) i) ≡ t =
+    ap (set_row n t i) (ap (λ (r : List ℕ). union (row n t i) r i) (sym w) ∙ union_self (row n t i) i) ∙ set_row-same n t i in
     sym (rw s (ap (set_row n t j) (ap (λ (r : List ℕ). union (row n t j) r j) w ∙ union_self (row n t j) j) ∙ set_row-same n t j))
   where
     union_self : (r : List ℕ) (own : ℕ) → union r r own ≡ r
-    union_self r own = ext_get_or 0 (union r r own) r (union-length r r own) (λ k h. let hk : k < length r = omega (arith, union-length r r own) in union-at r r own k hk ∙ pick k (ℕ_discrete k own))
+    union_self r own =
+        ext_get_or 0 (union r r own) r (union-length r r own)
+        (λ k h. let hk : k < length r = omega (arith, union-length r r own) in union-at r r own k hk ∙ pick k (ℕ_discrete k own))
       where
         pick : (k : ℕ) → Dec (k ≡ own) → union_byte r r own k ≡ get_or r k 0
         pick k (yes q) = rw q (union-own r r own)
@@ -70,7 +74,8 @@ exchange-is n t i j long hi hj apart o x t₁ t₂ room eo e₁ e₂ =
     let u : List ℕ = union ri rj i in
     let hu : length u ≡ n = union-length ri rj i ∙ li in
     let to : take n o ≡ joined_bytes ri rj =
-    ap (take n) (eo ∙ into-fits ri rj x (li ∙ sym lj) (omega (arith, li))) ∙ take_at (joined_bytes ri rj) (drop (length (joined_bytes ri rj)) x) n (joined_length ri rj ∙ li) in
+    ap (take n) (eo ∙ into-fits ri rj x (li ∙ sym lj) (omega (arith, li)))
+    ∙ take_at (joined_bytes ri rj) (drop (length (joined_bytes ri rj)) x) n (joined_length ri rj ∙ li) in
     let f : (k : ℕ) → k < n → get_or (take n o) k 0 ≡ max (get_or ri k 0) (get_or rj k 0) =
     (λ k h. ap (λ (l : List ℕ). get_or l k 0) to ∙ joined_at ri rj k (omega (arith, li))) in
     let s : t₁ ≡ set_row n t i u = e₁ ∙ ap (set_row n t i) (union-twice ri rj (take n o) n i li f) in

@@ -125,7 +125,8 @@ accepted-on : (w n k : ℕ) (s : State) (sheet : List ℕ) (es : List Entry) →
 unfolding go_on
 accepted-on w n k s sheet [] a = a
 accepted-on w n k s sheet (e ∷ es) a =
-    pick (eqb (entry_refusal n s e) 0) refl (λ z. accepted-on w n (suc k) (after w n s e) (write_line sheet k (sheet_line w n s e)) es (accepted-kept w n s e a z))
+    pick (eqb (entry_refusal n s e) 0) refl
+    (λ z. accepted-on w n (suc k) (after w n s e) (write_line sheet k (sheet_line w n s e)) es (accepted-kept w n s e a z))
   where
     rest : RunResult
     rest = go_on w n (suc k) (after w n s e) (write_line sheet k (sheet_line w n s e)) es
@@ -143,7 +144,8 @@ accepted-run w n s schedule sheet a = pick (eqb (start_refusal w n s.table (leng
     rest = go_on w n 0 s sheet (entries schedule)
 
     pick : (b : Bool)
-        → Accepted w n (cond b rest (record { number = start_refusal w n s.table (length schedule) (length sheet); taken = 0; state = s; sheet = sheet })).state.table
+        → Accepted w n (cond b rest
+        (record { number = start_refusal w n s.table (length schedule) (length sheet); taken = 0; state = s; sheet = sheet })).state.table
     pick true = accepted-on w n 0 s sheet (entries schedule) a
     pick false = a
 

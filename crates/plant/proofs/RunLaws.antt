@@ -84,7 +84,8 @@ module _ (w n k : ℕ) (s : State) (sheet schedule : List ℕ) where
   from-here = go_on w n k s sheet (drop k (entries schedule))
 
   pub go-taken : (e : Entry) (s' : State) (sheet' : List ℕ) → k < length schedule / 2 → e ≡ entry_at schedule k → entry_refusal n s e ≡ 0
-      → s' ≡ after w n s e → sheet' ≡ write_line sheet k (sheet_line w n s e) → go_on w n (k + 1) s' sheet' (drop (k + 1) (entries schedule)) ≡ from-here
+      → s' ≡ after w n s e → sheet' ≡ write_line sheet k (sheet_line w n s e)
+      → go_on w n (k + 1) s' sheet' (drop (k + 1) (entries schedule)) ≡ from-here
   unfolding go_on
   go-taken e s' sheet' h at z a b = rw (a, b, entries_at schedule k h, ← at, z, add-one k)
 

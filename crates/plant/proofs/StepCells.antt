@@ -8,7 +8,8 @@ use native.Mathlib.Decide.{dec_lt, ℕ_discrete}
 use native.Mathlib.Omega.{arith}
 use lib.ListN.{length}
 use Rattle.table.specs.Wiring.{end_distance}
-use Rattle.table.specs.Table.{head, stride, table_length, cell, status_column, next_column, finished_column, tests_column, told_by_column, status, status_told, next_distance, finished, tests_made, told_by, suspects, row, set_row}
+use Rattle.table.specs.Table.{head, stride, table_length, cell, status_column, next_column, finished_column, tests_column, told_by_column, status}
+use Rattle.table.specs.Table.{status_told, next_distance, finished, tests_made, told_by, suspects, row, set_row}
 use Rattle.lists.specs.Bytes.{joined_byte}
 use Rattle.station.specs.Rows.{union_byte, union, mark}
 use Rattle.table.proofs.CellLaws.{cell_same, cell_other, set_cell-length, row-length, row_at, set_row-length, set_row-in, set_row-out}

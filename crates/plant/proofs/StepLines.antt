@@ -2,7 +2,7 @@
 -- Assumes nothing.
 use mathlib.Core.Path.{◌≡◌, refl, sym, ◌∙◌}
 use mathlib.Core.Logic.{◌≢◌}
-use mathlib.Core.Bool.{Bool, true, false, cond, ◌&&◌}
+use mathlib.Core.Bool.{Bool, true, false, cond}
 use mathlib.Core.List.{List}
 use Prim.Native.Nat.{ℕ, ◌+◌, ◌≤◌, ◌<◌}
 use native.Mathlib.Decide.{ℕ_discrete}
@@ -10,26 +10,23 @@ use native.Mathlib.Omega.{arith}
 use borrow.Author.Tests.{eqb-true}
 use lib.Dec.{eqb}
 use lib.ListN.{length}
-use Rattle.table.specs.Wiring.{is_ring, end_distance}
-use Rattle.table.proofs.WiringLaws.{end_ring}
+use Rattle.table.specs.Wiring.{end_distance}
 use Rattle.station.specs.Wired.{wired_station}
-use Rattle.table.specs.Table.{head, stride, table_length, cell, status_column, next_column, finished_column, tests_column, told_by_column, rounds_ago_column, status, status_told, status_alone, next_distance, finished, told_by, rounds_ago, suspects, live}
+use Rattle.table.specs.Table.{head, stride, table_length, cell, status_column, next_column, finished_column, tests_column, told_by_column}
+use Rattle.table.specs.Table.{rounds_ago_column, status, status_told, status_alone, next_distance, finished, told_by, rounds_ago, suspects, live}
 use Rattle.lists.proofs.BoolLaws.{by_bool, choice}
 use Rattle.lists.proofs.SearchLaws.{both}
-use Rattle.station.proofs.WiredLaws.{station-apart}
+use Rattle.station.proofs.WiredLaws.{station-apart, next_after-between}
 use Rattle.table.specs.Rules.{exit_rule}
 use Rattle.table.proofs.CellLaws.{Line, live_exit, told-exit, none-exit, cell_same, cell_other, set_cell-length}
-use Rattle.plant.specs.Turn.{set_status, leave_told, makes_test, next_test, finish_pass, count_test, exchange_rows, suspect, after_outcome, after_test, is_alone, after_alone, outcome_at, testing, turn}
+use Rattle.plant.specs.Turn.{set_status, leave_told, makes_test, next_test, finish_pass, count_test, exchange_rows, suspect, after_outcome}
+use Rattle.plant.specs.Turn.{after_test, is_alone, after_alone, outcome_at, testing, turn}
 use Rattle.station.specs.Outcome.{outcome_exchanged, outcome_told, outcome_tested_told}
-use Rattle.station.specs.Wired.{next_after}
 use Rattle.plant.proofs.NextTest.{next_test-low, test_below, test-station}
-use Rattle.plant.proofs.StepCells.{leave_told-length, leave_told-other, leave_told-status, leave_told-teller, finish_pass-length, finish_pass-other, finish_pass-next, finish_pass-finished, count_test-length, count_test-other, count_test-next, count_test-tests, suspect-length, suspect-same, suspect-other, exchange-length, exchange-other, exchange-tester, exchange-tested, exchange-tester-own, exchange-tested-own}
-
--- what each wiring must satisfy of the next distance after a test: it is greater than the distance, and the end distance at most
-pub next_after-between : (w n m o : ℕ) → m < end_distance w n → (m < next_after w n m o) × (next_after w n m o ≤ end_distance w n)
-unfolding next_after
-next_after-between w n m o h =
-    by_bool (is_ring w && eqb o outcome_exchanged) (λ e. rw e (omega (arith, end_ring w n (both _ _ e).0))) (λ e. rw e (omega arith))
+use Rattle.plant.proofs.StepCells.{leave_told-length, leave_told-other, leave_told-status, leave_told-teller, finish_pass-length, finish_pass-other}
+use Rattle.plant.proofs.StepCells.{finish_pass-next, finish_pass-finished, count_test-length, count_test-other, count_test-next, count_test-tests}
+use Rattle.plant.proofs.StepCells.{suspect-length, suspect-same, suspect-other, exchange-length, exchange-other, exchange-tester, exchange-tested}
+use Rattle.plant.proofs.StepCells.{exchange-tester-own, exchange-tested-own}
 
 -- the table has its length, and each line obeys the rules
 abbrev pub Lines : ℕ → ℕ → List ℕ → Type 0
@@ -150,7 +147,8 @@ module _ (w n : ℕ) (t : List ℕ) (i : ℕ) (lines : Lines w n t) (h : i < n) 
       suspect-length n t i lines.0 h j ∙ lines.0,
       λ k hk.
           let l = lines.1 k hk in
-          line_row w n t (suspect n t i j) k l (λ c hc. other k c (omega arith) (omega arith)) (other k (head + k) (omega arith) (omega arith) ∙ l.own)
+          line_row w n t (suspect n t i j) k l (λ c hc. other k c (omega arith) (omega arith))
+          (other k (head + k) (omega arith) (omega arith) ∙ l.own)
           (λ x hx. pick k x hx (l.range x hx) (ℕ_discrete i k) (ℕ_discrete x j)),
     )
       where
@@ -183,9 +181,11 @@ module _ (w n : ℕ) (t : List ℕ) (i : ℕ) (lines : Lines w n t) (h : i < n) 
         byte : (k : ℕ) → k < n → (x : ℕ) → x < n → Dec (i ≡ k) → Dec (j ≡ k) → Dec (x ≡ k) → suspects n (exchange_rows n t i j) k x ≤ 1
         byte k hk x hx e f (yes g) = rw (g, own k hk e f) (omega arith)
         byte k hk x hx (yes e) f (no g) =
-            rw (← e, exchange-tester n t i lines.0 h j hj apart x hx (omega arith)) (omega (arith, (lines.1 i h).range x hx, (lines.1 j hj).range x hx))
+            rw (← e, exchange-tester n t i lines.0 h j hj apart x hx (omega arith))
+            (omega (arith, (lines.1 i h).range x hx, (lines.1 j hj).range x hx))
         byte k hk x hx (no e) (yes f) (no g) =
-            rw (← f, exchange-tested n t i lines.0 h j hj apart x hx (omega arith)) (omega (arith, (lines.1 i h).range x hx, (lines.1 j hj).range x hx))
+            rw (← f, exchange-tested n t i lines.0 h j hj apart x hx (omega arith))
+            (omega (arith, (lines.1 i h).range x hx, (lines.1 j hj).range x hx))
         byte k hk x hx (no e) (no f) (no g) =
             rw (other k (head + x) (omega arith) (λ g. absurd (e g)) (λ g. absurd (f g))) ((lines.1 k hk).range x hx)
 

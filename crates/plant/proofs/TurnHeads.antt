@@ -12,13 +12,16 @@ use lib.Dec.{eqb}
 use Rattle.lists.specs.Search.{select}
 use Rattle.table.specs.Wiring.{wiring_cube, end_distance}
 use Rattle.station.specs.Wired.{wired_station, wired_due}
-use Rattle.table.specs.Table.{table_length, cell, status_column, next_column, finished_column, tests_column, next_distance, finished, tests_made, row, status_alone}
+use Rattle.table.specs.Table.{table_length, cell, status_column, next_column, finished_column, tests_column, next_distance, finished, tests_made}
+use Rattle.table.specs.Table.{row, status_alone}
 use Rattle.table.proofs.CellLaws.{TurnCounts, cell_other}
-use Rattle.plant.specs.Turn.{set_status, leave_told, next_test, makes_test, count_test, after_outcome, after_test, is_alone, after_alone, outcome_at, testing, turn}
+use Rattle.plant.specs.Turn.{set_status, leave_told, next_test, makes_test, count_test, after_outcome, after_test, is_alone, after_alone}
+use Rattle.plant.specs.Turn.{outcome_at, testing, turn}
 use Rattle.station.specs.Outcome.{outcome_exchanged, outcome_told, outcome_tested_told}
 use Rattle.station.specs.Wired.{next_after}
 use Rattle.plant.proofs.NextTest.{next_test-low, not-due-before, test_below, test-station, test-due, none-due}
-use Rattle.plant.proofs.StepCells.{leave_told-other, finish_pass-other, finish_pass-next, finish_pass-finished, count_test-length, count_test-other, count_test-next, count_test-tests, suspect-other, exchange-other}
+use Rattle.plant.proofs.StepCells.{leave_told-other, finish_pass-other, finish_pass-next, finish_pass-finished, count_test-length, count_test-other}
+use Rattle.plant.proofs.StepCells.{count_test-next, count_test-tests, suspect-other, exchange-other}
 use Rattle.station.specs.Tests.{due}
 use Rattle.station.proofs.WiredLaws.{cube_due, station-apart}
 use Rattle.plant.proofs.StepLines.{Lines}
@@ -114,13 +117,17 @@ module _ (n : ℕ) (t t' : List ℕ) (i o : ℕ) (heads : Heads wiring_cube n t 
   passed-list =
       by_bool (makes_test wiring_cube n t i)
       (λ e.
-      let stay = select-stays q (next_distance n t i) m (next_test-low wiring_cube n t i) (λ y a b. asked y false (not-due-before wiring_cube n t i y a b)) in
+      let stay =
+      select-stays q (next_distance n t i) m (next_test-low wiring_cube n t i)
+      (λ y a b. asked y false (not-due-before wiring_cube n t i y a b)) in
       rw (heads.next, e, stays, add-one m, select-suc q m, asked m true (test-due wiring_cube n t i e), stay))
       (λ e.
-      let stay = select-stays q (next_distance n t i) (end_distance wiring_cube n) high (λ y a b. asked y false (none-due wiring_cube n t i e high y a b)) in
+      let stay =
+      select-stays q (next_distance n t i) (end_distance wiring_cube n) high (λ y a b. asked y false (none-due wiring_cube n t i e high y a b)) in
       rw (heads.next, e, append-nil) stay)
 
-  pub passed-dues : sum_below (λ x. bit (q x)) (next_distance n t' i) ≡ sum_below (λ x. bit (q x)) (next_distance n t i) + bit (makes_test wiring_cube n t i)
+  pub passed-dues : sum_below (λ x. bit (q x)) (next_distance n t' i) ≡ sum_below (λ x. bit (q x)) (next_distance n t i) + bit
+      (makes_test wiring_cube n t i)
   passed-dues =
       sym (select-sum q (next_distance n t' i))
       ∙ (ap length passed-list ∙ length-append (select q (next_distance n t i)) (cond (makes_test wiring_cube n t i) (m ∷ []) []))

@@ -4,7 +4,8 @@
 use Rattle.std.specs.Prelude.{ℕ, Bool, ◌&&◌, List, if◌then◌else◌, ◌==◌, nat_lt}
 use Rattle.lists.specs.Search.{every}
 use Rattle.table.specs.Wiring.{end_distance}
-use Rattle.table.specs.Table.{write_cells, set_cell, status_column, next_distance, tests_made, suspects, live, row, set_row, status_alone, status_crashed}
+use Rattle.table.specs.Table.{write_cells, set_cell, status_column, next_distance, tests_made, suspects, live, row, set_row, status_alone}
+use Rattle.table.specs.Table.{status_crashed}
 use Rattle.station.specs.Wired.{wired_station, next_due}
 use Rattle.station.specs.Outcome.{outcome_finished, outcome_no_reply, no_station}
 use Rattle.station.specs.Step.{told_writes, finish_writes, count_writes, outcome_by, by_outcome}

@@ -15,5 +15,5 @@ pub fn runs()
 // Computed (specs/Example.antt).
 pub fn example()
     // A round of four boards on the ring, of which one is dead.
-    ensures round_on_the_ring { RoundOnTheRing }
+    ensures { RoundOnTheRing }
 {}

@@ -5,7 +5,8 @@ ghost use Rattle.table.specs.Lent.{IsSameLoan};
 ghost use Rattle.table.specs.Wiring.{wiring_number};
 ghost use Rattle.table.specs.Rules.{numbered_table_refusal};
 ghost use Rattle.station.specs.Outcome.{tested_byte, outcome_byte};
-ghost use Rattle.plant.specs.Entry.{state_with, entry_of, entry_known, entry_check, entry_refusal, shows_test, acted, after, tested_of, outcome_of, sheet_line};
+ghost use Rattle.plant.specs.Entry.{state_with, entry_of, entry_known, entry_check, entry_refusal, shows_test, acted, after, tested_of, outcome_of};
+ghost use Rattle.plant.specs.Entry.{sheet_line};
 
 use crate::kind::Kind;
 use crate::{Tally, rounds, steps};

@@ -8,7 +8,8 @@ ghost use Rattle.station.specs.Rows.{union};
 ghost use Rattle.table.specs.Rules.{numbered_table_refusal};
 ghost use Rattle.plant.specs.Kind.{kind_byte};
 ghost use Rattle.station.specs.Outcome.{tested_byte, outcome_byte};
-ghost use Rattle.plant.specs.Turn.{next_test, finish_pass, count_test, replies, exchange_rows, suspect, leave_told, reply_outcome, test_outcome, after_outcome, is_alone, after_alone, outcome_at, testing, turn, turn_tested, turn_outcome};
+ghost use Rattle.plant.specs.Turn.{next_test, finish_pass, count_test, replies, exchange_rows, suspect, leave_told, reply_outcome, test_outcome};
+ghost use Rattle.plant.specs.Turn.{after_outcome, is_alone, after_alone, outcome_at, testing, turn, turn_tested, turn_outcome};
 
 use crate::kind::Kind;
 use lists::bytes;

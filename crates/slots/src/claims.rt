@@ -1,7 +1,8 @@
 // The law behind the numbers of the commissioning sheet (specs/Law.antt), and what is claimed of who stands ahead (specs/Assignments.antt). Each
 // function does nothing: its clauses are the claims.
 
-ghost use Rattle.slots.specs.Law.{DueByDigits, NobodyLeftOut, ListsCounted, TestsByLevels, TestsAtMost, NobodySuspected, OneSuspected, OneSuspectedExactly, MostOfPowers, LastTestsAll, NeverFewer, MostIsNoLess, MostCovers};
+ghost use Rattle.slots.specs.Law.{DueByDigits, NobodyLeftOut, ListsCounted, TestsByLevels, TestsAtMost, NobodySuspected, OneSuspected};
+ghost use Rattle.slots.specs.Law.{OneSuspectedExactly, MostOfPowers, LastTestsAll, NeverFewer, MostIsNoLess, MostCovers};
 ghost use Rattle.slots.specs.Assignments.{OwnUnsuspected, SomebodyFirst, BeforeUpTo, NothingLeftOver, DueEntriesAreMarked};
 
 // Tests, and the most that one more dead station makes of them (specs/Law.antt).

@@ -80,7 +80,8 @@ before-by-digits i m x = (there, back)
         let s = level-split e (omega arith) in
         let u = level-split m (omega arith) in
         let g : ℕ = u.0 in
-        let low : bit_xor m (bit_xor m e) < 2 ^ g = xor-of-near g m (bit_xor m e) (level-top m g u.1 ∙ sym (level-top (bit_xor m e) g (same ∙ u.1))) in
+        let low : bit_xor m (bit_xor m e) < 2 ^ g =
+        xor-of-near g m (bit_xor m e) (level-top m g u.1 ∙ sym (level-top (bit_xor m e) g (same ∙ u.1))) in
         let odd : ¬ (m / 2 ^ s.0 % 2 ≡ 0) = λ z. omega (arith, digit-more m e s.0 s.1 z) in
         (s.0, s.1, omega (arith, u.1, s.1, level-le e g (rw (xor-cancel m e) at low)), omega arith)
 
@@ -124,7 +125,8 @@ block_near m t odd =
     let whole : a * 2 ^ t ≡ (a - 1) * 2 ^ t + 2 ^ t = ap (λ (v : ℕ). v * 2 ^ t) next ∙ suc-mul (a - 1) (2 ^ t) in
     let low : a - 1 ≤ b = (le-div_iff_mul-le (pow_pos t)).1 (omega (arith, pow_pos t, whole, div-mul-le_self m (2 ^ t))) in
     let high : b ≤ a = div-le t (m - 1) m (omega arith) in
-    let either : bit_or a b ≡ a = by_cases (dec_lt b a) (λ l. or-odd a b odd (omega arith)) (λ l. let same : b ≡ a = omega arith in rw same (or_self a)) in
+    let either : bit_or a b ≡ a =
+    by_cases (dec_lt b a) (λ l. or-odd a b odd (omega arith)) (λ l. let same : b ≡ a = omega arith in rw same (or_self a)) in
     or_shr m (m - 1) t ∙ either
 
 pub before-in-block : BeforeInBlock
@@ -145,7 +147,8 @@ named-stands-before r i m x own pos here e = by_bool (eqb y i) (λ z. absurd (tr
     j : ℕ
     j = station_at i m
 
-    f : (a : ℕ) × (level a ≡ level m) × (a ≤ m) × (unsuspected r (station_at j a) ≡ true) × (first (unsuspected r) j (level m) ≡ Some (station_at j a))
+    f : (a : ℕ) × (level a ≡ level m) × (a ≤ m) × (unsuspected r (station_at j a) ≡ true) ×
+        (first (unsuspected r) j (level m) ≡ Some (station_at j a))
     f = first_found (unsuspected r) j m pos (rw (xor-undo i m) own)
 
     y : ℕ
@@ -185,7 +188,8 @@ due-if-nobody-before r i m own pos = (λ e. (due-stands r i m e, there e), λ gi
     there : due r i m ≡ true → (x : ℕ) → Before i m x → unsuspected r x ≡ false
     there e x b = by_bool (unsuspected r x) (λ p. absurd (true≢false (sym e ∙ not-due-before r i m x p b))) (λ p. p)
 
-    back : stands r i m ≡ true → ((x : ℕ) → Before i m x → unsuspected r x ≡ false) → (a : DueAnswer) → answer r i m ≡ a → says_due (answer r i m) ≡ true
+    back : stands r i m ≡ true → ((x : ℕ) → Before i m x → unsuspected r x ≡ false) → (a : DueAnswer) → answer r i m ≡ a
+        → says_due (answer r i m) ≡ true
     back here none answer_due e = rw e
     back here none (answer_ahead x) e =
         let b = named-stands-before r i m x own pos here e in

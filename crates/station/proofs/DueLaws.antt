@@ -37,10 +37,12 @@ first-zero q j = refl
 
 -- the group of j at level s as the code walks it: from distance w, which is its width, on
 module _ (q : ℕ → Bool) (j s w : ℕ) (e : w ≡ width s) where
-  pub first-at : (k : ℕ) → k < w → q (station_at j (w + k)) ≡ true → ((y : ℕ) → y < k → q (station_at j (w + y)) ≡ false) → first q j s ≡ Some (station_at j (w + k))
+  pub first-at : (k : ℕ) → k < w → q (station_at j (w + k)) ≡ true → ((y : ℕ) → y < k → q (station_at j (w + y)) ≡ false)
+      → first q j s ≡ Some (station_at j (w + k))
   unfolding first first_place member
   first-at k h p before =
-      let l : first_place q j s ≡ k = least-is (λ y. q (member j s y)) (width s) 0 k (omega arith) (omega arith) (rw e at p) (λ y a b. rw e at (before y b)) in
+      let l : first_place q j s ≡ k =
+      least-is (λ y. q (member j s y)) (width s) 0 k (omega arith) (omega arith) (rw e at p) (λ y a b. rw e at (before y b)) in
       rw (l, lt-ltb k (width s) (omega arith), e)
 
   pub first-nobody : ((y : ℕ) → y < w → q (station_at j (w + y)) ≡ false) → first q j s ≡ None

@@ -44,7 +44,8 @@ pub standing-all : (w n i : ℕ) → is_size n ≡ true → i < n → standing w
 unfolding end_distance
 standing-all w n i size h =
     by_bool (is_ring w)
-    (λ r. rw r (sum_by n (λ k l. rw (ring-station w n i k r) (ap bit (lt-ltb ((i + k) % n) n (place_below n (i + k) (omega arith))))) ∙ sum-const 1 n ∙ omega arith))
+    (λ r. rw r (sum_by n (λ k l. rw (ring-station w n i k r) (ap bit (lt-ltb ((i + k) % n) n (place_below n (i + k) (omega arith)))))
+    ∙ sum-const 1 n ∙ omega arith))
     (λ c. rw c (sum_by (distances n) (λ k l. ap (λ (x : ℕ). bit (is_present n x)) (cube-station w n i k c)) ∙ cube-all n i size h))
 
 -- a station at a distance counts one more

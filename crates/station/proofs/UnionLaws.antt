@@ -35,7 +35,8 @@ union-others r o own k apart = rw (ne_eqb k own apart)
 pub union-kept : (r o t : List ℕ) (own : ℕ) → t ≡ joined_bytes r o → own < length r → set t own (get_or r own 0) ≡ union r o own
 union-kept r o t own e h =
     ext_get_or 0 (set t own (get_or r own 0)) (union r o own) (length-set t own (get_or r own 0) ∙ long ∙ sym (union-length r o own))
-    (λ k l. let hk : k < length r = subst (λ (x : ℕ). k < x) (length-set t own (get_or r own 0) ∙ long) l in at k hk (ℕ_discrete k own) ∙ sym (union-at r o own k hk))
+    (λ k l. let hk : k < length r = subst (λ (x : ℕ). k < x) (length-set t own (get_or r own 0) ∙ long) l in
+    at k hk (ℕ_discrete k own) ∙ sym (union-at r o own k hk))
   where
     long : length t ≡ length r
     long = ap length e ∙ joined_length r o

@@ -2,23 +2,25 @@
 -- Assumes nothing.
 use mathlib.Core.Path.{◌≡◌, sym, ◌∙◌}
 use mathlib.Core.Logic.{◌≢◌, by_cases}
-use mathlib.Core.Bool.{true, false}
+use mathlib.Core.Bool.{true, false, ◌&&◌}
 use mathlib.Core.List.{List}
 use Prim.Native.Nat.{ℕ, ◌+◌, ◌-◌, ◌%◌, ◌≤◌, ◌<◌}
 use native.Mathlib.Nat.{mod-eq_of_lt, mod-eq-sub-mod}
 use native.Mathlib.Decide.{dec_lt}
 use native.Mathlib.Omega.{arith}
 use lib.Bits.{xor_self}
+use lib.Dec.{eqb}
 use lib.ListN.{length}
 use Rattle.lists.specs.Search.{least}
 use Rattle.lists.proofs.BoolLaws.{by_bool, least-same}
-use Rattle.lists.proofs.SearchLaws.{least-is, least-between}
+use Rattle.lists.proofs.SearchLaws.{least-is, least-between, both}
 use Rattle.lists.proofs.Xor.{xor-cancel}
 use Rattle.table.specs.Wiring.{is_ring, end_distance}
 use Rattle.table.proofs.WiringLaws.{end_ring}
 use Rattle.station.specs.Groups.{station_at}
 use Rattle.station.specs.Tests.{due}
-use Rattle.station.specs.Wired.{wired_station, wired_due, next_due}
+use Rattle.station.specs.Outcome.{outcome_exchanged}
+use Rattle.station.specs.Wired.{wired_station, wired_due, next_due, next_after}
 use Rattle.station.proofs.DueLaws.{due-present}
 
 -- a place of the ring before n, and one behind it
@@ -68,7 +70,8 @@ xor-apart i m pos e = let z : 0 ≡ m = cc (xor_self i, xor-cancel i m) in omega
 
 ring-apart : (n i m : ℕ) → i < n → 1 ≤ m → m < n → i ≢ (i + m) % n
 ring-apart n i m h pos l e =
-    by_cases (dec_lt (i + m) n) (λ b. omega (arith, place_before n (i + m) b)) (λ b. omega (arith, place_behind n (i + m) (omega arith) (omega arith)))
+    by_cases (dec_lt (i + m) n) (λ b. omega (arith, place_before n (i + m) b))
+    (λ b. omega (arith, place_behind n (i + m) (omega arith) (omega arith)))
 
 -- the tested station is another one
 pub station-apart : (w n i m : ℕ) → i < n → 1 ≤ m → m < end_distance w n → i ≢ wired_station w n i m
@@ -84,3 +87,9 @@ station-present w r n i m long h l e =
     by_bool (is_ring w)
     (λ g. rw (ring-station w n i m g) (place_below n (i + m) (omega (arith, end_ring w n g))))
     (λ c. rw (cube-station w n i m c) (rw long at (due-present r i m (sym (cube_due w r i m c) ∙ e))))
+
+-- what each wiring must satisfy of the next distance after a test: it is greater than the distance, and the end distance at most
+pub next_after-between : (w n m o : ℕ) → m < end_distance w n → (m < next_after w n m o) × (next_after w n m o ≤ end_distance w n)
+unfolding next_after
+next_after-between w n m o h =
+    by_bool (is_ring w && eqb o outcome_exchanged) (λ e. rw e (omega (arith, end_ring w n (both _ _ e).0))) (λ e. rw e (omega arith))

@@ -3,7 +3,8 @@
 -- Assumes nothing.
 use Rattle.std.specs.Prelude.{ℕ, ◌+◌, min, Bool, List, [], ◌∷◌, if◌then◌else◌, ◌==◌}
 use Rattle.table.specs.Wiring.{end_distance}
-use Rattle.table.specs.Table.{Write, ◌becomes◌, status_column, next_column, finished_column, tests_column, told_by_column, rounds_ago_column, rounds_ago_top, status_told}
+use Rattle.table.specs.Table.{Write, ◌becomes◌, status_column, next_column, finished_column, tests_column, told_by_column, rounds_ago_column}
+use Rattle.table.specs.Table.{rounds_ago_top, status_told}
 use Rattle.station.specs.Outcome.{outcome_exchanged, outcome_told, outcome_tested_told}
 use Rattle.station.specs.Wired.{next_after}
 

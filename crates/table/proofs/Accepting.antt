@@ -12,17 +12,20 @@ use Rattle.lists.specs.Search.{every}
 use Rattle.table.specs.Sizes.{is_size}
 use Rattle.table.specs.Table.{table_length}
 use Rattle.table.specs.Wiring.{wiring_check}
-use Rattle.table.specs.Rules.{wired_line_rules, not_live, some_live, finished_if_live, live_finished, shape_check, table_check_on, numbered_table_check, numbered_table_refusal}
+use Rattle.table.specs.Rules.{wired_line_rules, not_live, some_live, finished_if_live, live_finished, shape_check, table_check_on}
+use Rattle.table.specs.Rules.{numbered_table_check, numbered_table_refusal}
 use Rattle.lists.proofs.Loops.{every-stop, every-done}
 use Rattle.lists.proofs.RefusalLaws.{check_zero, ensure_ok, and_ok}
 
 -- refusal 4: one live station that has not finished keeps the round open
-pub round-open : (n : ℕ) (t : List ℕ) (i : ℕ) (r : Bool) → i < n → r ≡ finished_if_live n t i → not r ≡ true → false ≡ (some_live n t && live_finished n t)
+pub round-open : (n : ℕ) (t : List ℕ) (i : ℕ) (r : Bool) → i < n → r ≡ finished_if_live n t i → not r ≡ true
+    → false ≡ (some_live n t && live_finished n t)
 unfolding live_finished
 round-open n t i r h e f = rw (← every-stop (finished_if_live n t) n i r h e f, and-false)
 
 -- after all lines, of which every live one has finished
-pub round-done : (n : ℕ) (t : List ℕ) (i : ℕ) (some : Bool) → i ≤ n → n ≤ i → every (finished_if_live n t) i ≡ true → some ≡ not (every (not_live n t) i)
+pub round-done : (n : ℕ) (t : List ℕ) (i : ℕ) (some : Bool) → i ≤ n → n ≤ i → every (finished_if_live n t) i ≡ true
+    → some ≡ not (every (not_live n t) i)
     → some ≡ (some_live n t && live_finished n t)
 unfolding some_live live_finished
 round-done n t i some a b e s =

@@ -15,7 +15,10 @@ use lib.Dec.{leb, eqb}
 use lib.ListN.{length, get_or, take, drop, length-append, length-take, length-drop, length-set, get_or-append}
 use lib.Seq.{length-take-le, get_or-append-add, get_or-take, get_or-drop, get_or-set_same, get_or-set_other, ext_get_or}
 use Rattle.table.specs.Wiring.{end_distance}
-use Rattle.table.specs.Table.{head, stride, table_length, line_start, cell, set_cell, status, next_distance, finished, tests_made, status_told, told_by, told_by_column, told_by_none, not_recorded, rounds_ago, rounds_ago_column, suspects, row_start, row, set_row, next_column, tests_column}
+use Rattle.table.proofs.WiringLaws.{end-pos}
+use Rattle.table.specs.Table.{head, stride, table_length, line_start, cell, set_cell, status, next_distance, finished, tests_made, status_told}
+use Rattle.table.specs.Table.{told_by, told_by_column, told_by_none, not_recorded, rounds_ago, rounds_ago_column, suspects, row_start, row, set_row}
+use Rattle.table.specs.Table.{next_column, tests_column}
 use Rattle.table.specs.Rules.{pass_rule, exit_rule, suspicion_rule, row_rule_by, row_rule, wired_line_rules}
 use Rattle.lists.specs.Search.{every}
 use Rattle.lists.proofs.BoolLaws.{every-same}
@@ -33,8 +36,11 @@ ClosingChanges c = (next_column ≤ c) × (c ≤ rounds_ago_column) × (c ≢ to
 -- two places are one only where line and column are
 place_same : (n i c i' c' : ℕ) → c < stride n → c' < stride n → line_start n i + c ≡ line_start n i' + c' → (i ≡ i') × (c ≡ c')
 unfolding line_start
-place_same n i c i' c' h h' e =
-    (sym (digits_div i h) ∙ ap (λ (x : ℕ). x / stride n) e ∙ digits_div i' h', sym (digits_mod i h) ∙ ap (λ (x : ℕ). x % stride n) e ∙ digits_mod i' h')
+place_same n i c i' c' h h' e = (
+  sym (digits_div i h) ∙ ap (λ (x : ℕ). x / stride n) e ∙ digits_div i' h',
+  sym (digits_mod i h) ∙ ap (λ (x : ℕ). x % stride n) e
+      ∙ digits_mod i' h',
+)
 
 pub line-inside : (n i : ℕ) → i < n → line_start n i + stride n ≤ table_length n
 unfolding line_start table_length
@@ -139,7 +145,8 @@ set_row-out n t i r i' c long h hr hc out = pick (dec_lt p a) (dec_lt p (a + n))
         rw e (spliced-after t r a n fits hr (p - (a + n)))
 
 -- the rules of a row, of row i of a table
-pub row_rule_of_row : (n : ℕ) (t r : List ℕ) (i : ℕ) → i < n → r ≡ row n t i → length r ≡ n → row_rule_by (length r) i (λ k. get_or r k 0) ≡ row_rule n t i
+pub row_rule_of_row : (n : ℕ) (t r : List ℕ) (i : ℕ) → i < n → r ≡ row n t i → length r ≡ n
+    → row_rule_by (length r) i (λ k. get_or r k 0) ≡ row_rule n t i
 unfolding row_rule
 row_rule_of_row n t r i h e l =
     rw (l, e) (ap₂ (λ (a : ℕ) (b : Bool). eqb a 0 && b) (row_at n t i i h) (every-same _ _ n (λ k hk. ap (λ (a : ℕ). leb a 1) (row_at n t i k hk))))
@@ -162,6 +169,16 @@ pub record Pass (end next finished tests : ℕ) : Type 0 where
   pub finished_range : finished ≤ 1
   pub tests_bound : tests ≤ next - 1
   pub finished_next : finished ≡ 1 → next ≡ end
+
+-- a line at the start of a round
+pub start-pass : (w n i : ℕ) → i < n → Pass (end_distance w n) 1 0 0
+start-pass w n i h = record {
+  next_low = omega arith;
+  next_high = end-pos w n i h;
+  finished_range = omega arith;
+  tests_bound = omega arith;
+  finished_next = λ p. absurd (omega arith);
+}
 
 -- the line rules of line i, on wiring w
 pub record Line (w n : ℕ) (t : List ℕ) (i : ℕ) : Type 0 where
@@ -231,7 +248,12 @@ line-facts w n t i e =
 pub line-holds : (w n : ℕ) (t : List ℕ) (i : ℕ) → Line w n t i → wired_line_rules w n t i ≡ true
 unfolding wired_line_rules row_rule
 line-holds w n t i l =
-    rw (le-leb (status n t i) 3 l.status_range, pass-holds (end_distance w n) (next_distance n t i) (finished n t i) (tests_made n t i) l.pass, l.exits, eq-eqb (suspects n t i i) 0 l.own)
+    rw (
+      le-leb (status n t i) 3 l.status_range,
+      pass-holds (end_distance w n) (next_distance n t i) (finished n t i) (tests_made n t i) l.pass,
+      l.exits,
+      eq-eqb (suspects n t i i) 0 l.own,
+    )
     (every-all (suspicion_rule n t i) n (λ k h. le-leb (suspects n t i k) 1 (l.range k h)))
 
 pub accepted-line : (w n : ℕ) (t : List ℕ) → Accepted w n t → (i : ℕ) → i < n → Line w n t i

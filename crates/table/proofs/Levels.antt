@@ -38,7 +38,8 @@ level-upper m = pick (eq-or-lt_of_le (omega (arith, least-between (below m) m 0)
 pub level-le : (m k : ℕ) → m < 2 ^ k → level m ≤ k
 unfolding level
 level-le m k h =
-    let not-later : ¬ (k < level m) = λ l. let z : ◌≡◌ {A = ℕ} 0 1 = cc (lt-ltb m (2 ^ k) h, least-before (below m) m 0 k (omega arith) l) in omega arith in
+    let not-later : ¬ (k < level m) =
+    λ l. let z : ◌≡◌ {A = ℕ} 0 1 = cc (lt-ltb m (2 ^ k) h, least-before (below m) m 0 k (omega arith) l) in omega arith in
     omega arith
 
 -- a distance of 2^s or more has a level above s

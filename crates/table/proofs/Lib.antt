@@ -6,3 +6,4 @@ pub mod StatusLaws
 pub mod Accepting
 pub mod CellLaws
 pub mod LineLaws
+pub mod FreshLaws

@@ -10,7 +10,8 @@ use native.Mathlib.Omega.{arith}
 use lib.ListN.{length, get_or, set, take, drop, length-append, length-take, length-drop, length-set, get_or-append}
 use lib.Seq.{length-take-le, get_or-append-add, get_or-take, get_or-drop, get_or-set_same, get_or-set_other, ext_get_or}
 use Rattle.table.specs.Table.{head, stride, table_length, line_start, cell, set_cell, row, set_row}
-use Rattle.table.proofs.CellLaws.{line-inside, spliced-before, spliced-in, spliced-after, cell_same, cell_other, set_cell-length, row-length, row_at, set_row-length, set_row-in, set_row-out}
+use Rattle.table.proofs.CellLaws.{line-inside, spliced-before, spliced-in, spliced-after, cell_same, cell_other, set_cell-length, row-length}
+use Rattle.table.proofs.CellLaws.{row_at, set_row-length, set_row-in, set_row-out}
 use Rattle.table.specs.Line.{line, row_of, with_row, set_line}
 
 pub line-length : (n : ℕ) (t : List ℕ) (i : ℕ) → length t ≡ table_length n → i < n → length (line n t i) ≡ stride n
@@ -105,7 +106,8 @@ line-set_row n t i r long h hr =
 pub line-set_row-other : (n : ℕ) (t : List ℕ) (i : ℕ) (r : List ℕ) (k : ℕ) → length t ≡ table_length n → i < n → k < n → length r ≡ n → i ≢ k
     → line n (set_row n t i r) k ≡ line n t k
 line-set_row-other n t i r k long h hk hr apart =
-    line_same n t (set_row n t i r) k long (set_row-length n t i r long h hr) hk (λ d hd. set_row-out n t i r k d long h hr hd (λ e. absurd (apart e)))
+    line_same n t (set_row n t i r) k long (set_row-length n t i r long h hr) hk
+    (λ d hd. set_row-out n t i r k d long h hr hd (λ e. absurd (apart e)))
 
 -- a line written
 lines-apart : (n k i : ℕ) → k < i → line_start n k + stride n ≤ line_start n i

@@ -4,7 +4,8 @@ use Rattle.std.specs.Prelude.{ℕ, ◌-◌, Bool, not, ◌&&◌, ◌||◌, List,
 use Rattle.lists.specs.Search.{every}
 use Rattle.table.specs.Sizes.{is_size}
 use Rattle.table.specs.Wiring.{wiring_cube, wiring_check, end_distance}
-use Rattle.table.specs.Table.{table_length, cell, status_column, status_told, next_column, finished_column, tests_column, finished, told_by_column, told_by_none, not_recorded, rounds_ago_column, suspects, live}
+use Rattle.table.specs.Table.{table_length, cell, status_column, status_told, next_column, finished_column, tests_column, finished, told_by_column}
+use Rattle.table.specs.Table.{told_by_none, not_recorded, rounds_ago_column, suspects, live}
 use Rattle.lists.specs.declared.refusal.Refusal.TheVariants.{SizeOutOfRange, TableLength, LineRule, RoundNotClosed, NoSuchStation, ListLength}
 use Rattle.lists.specs.Refusal.{Check, ensure, ◌and◌, number_of_result}
 

@@ -18,8 +18,8 @@ use Rattle.station.specs.Outcome.{outcome_byte}
 use Rattle.board.specs.Board.{left_told, joined}
 use Rattle.board.specs.Packed.{heard}
 use Rattle.board.specs.Calls.{place_check, line_check, live_check, turn_check, replied_check, row_check, sent_check, exchanged_check}
-use Rattle.board.specs.Calls.{next_answer, replied_answer, silent_answer}
-use Rattle.board.specs.Calls.{fresh_after, row_sent, replied_after, silent_after, told_after, exchanged_after, closed_after}
+use Rattle.board.specs.Calls.{next_answer, replied_answer, not_replied_answer}
+use Rattle.board.specs.Calls.{fresh_after, row_sent, replied_after, not_replied_after, told_after, exchanged_after, closed_after}
 use Rattle.vcube.proofs.Narrow.{Narrow, Far, behind, before, checked, answered, left, station_far}
 
 place_size : (w n i len : ℕ) → place_check w n i len ≡ Ok tt → is_size n ≡ true
@@ -95,11 +95,11 @@ module _ (w n : ℕ) where
   pub replied_after_narrow : (l packed : List ℕ) → Narrow (λ i. replied_after w n i l packed)
   replied_after_narrow l packed = left _ (replied_far l (length packed)) l _
 
-  pub silent_narrow : (l : List ℕ) → Narrow (λ i. silent_answer w n i l)
-  silent_narrow l = answered _ (turn_far l) _
+  pub not_replied_narrow : (l : List ℕ) → Narrow (λ i. not_replied_answer w n i l)
+  not_replied_narrow l = answered _ (turn_far l) _
 
-  pub silent_after_narrow : (l : List ℕ) → Narrow (λ i. silent_after w n i l)
-  silent_after_narrow l = left _ (turn_far l) l _
+  pub not_replied_after_narrow : (l : List ℕ) → Narrow (λ i. not_replied_after w n i l)
+  not_replied_after_narrow l = left _ (turn_far l) l _
 
   pub sent_narrow : (l : List ℕ) (i b i' b' : ℕ) → i' ≡ min i 255 → b' ≡ min b 255 → sent_check w n i' l b' ≡ sent_check w n i l b
   sent_narrow l i b i' b' e f = checked _ (sent_far l b') i i' e ∙ checked _ (sent_far_by i l) b b' f

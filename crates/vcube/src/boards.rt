@@ -4,8 +4,8 @@ ghost use Rattle.std.specs.Result.{result_unwrap_or, result_map_both};
 ghost use Rattle.lists.specs.Refusal.{number_of_result};
 ghost use Rattle.station.specs.Outcome.{outcome_byte};
 ghost use Rattle.board.specs.Calls.{place_check, line_check, row_check, turn_check, sent_check, exchanged_check};
-ghost use Rattle.board.specs.Calls.{next_answer, replied_answer, silent_answer};
-ghost use Rattle.board.specs.Calls.{fresh_after, row_sent, replied_after, silent_after, told_after, exchanged_after, closed_after};
+ghost use Rattle.board.specs.Calls.{next_answer, replied_answer, not_replied_answer};
+ghost use Rattle.board.specs.Calls.{fresh_after, row_sent, replied_after, not_replied_after, told_after, exchanged_after, closed_after};
 ghost use Rattle.vcube.specs.Exports.{station_number};
 
 use crate::{NO_STATION, byte_of};
@@ -87,7 +87,7 @@ pub extern "C" fn vcube_board_replied(
 }
 
 // Board, not replied: the turn without a reply; its outcome into outcome, 0 where it is refused.
-#[tactic(auto, using(crate::proofs::NarrowBoard::silent_narrow, crate::proofs::NarrowBoard::silent_after_narrow))]
+#[tactic(auto, using(crate::proofs::NarrowBoard::not_replied_narrow, crate::proofs::NarrowBoard::not_replied_after_narrow))]
 #[unsafe(no_mangle)]
 pub extern "C" fn vcube_board_not_replied(
     wiring: usize,
@@ -96,10 +96,10 @@ pub extern "C" fn vcube_board_not_replied(
     line: &mut [u8],
     outcome: &mut usize,
 ) -> u8
-    ensures number { result ≡ number_of_result (silent_answer wiring n own line.old) }
+    ensures number { result ≡ number_of_result (not_replied_answer wiring n own line.old) }
     ensures outcome_after { outcome.new
-        ≡ result_unwrap_or (silent_answer wiring n own line.old) 0 }
-    ensures line_after { line.new ≡ silent_after wiring n own line.old }
+        ≡ result_unwrap_or (not_replied_answer wiring n own line.old) 0 }
+    ensures line_after { line.new ≡ not_replied_after wiring n own line.old }
 {
     answer_turn(
         calls::not_replied(wiring, n, Station(byte_of(own)), line),

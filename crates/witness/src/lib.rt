@@ -18,5 +18,5 @@ pub fn examples()
 // Worst case (specs/WorstCase.antt).
 pub fn worst_case()
     // On each wiring with 3 boards or more, no number of rounds below the worst-case latency is enough.
-    ensures worst_case_is_reached { WorstCaseIsReached }
+    ensures { WorstCaseIsReached }
 {}

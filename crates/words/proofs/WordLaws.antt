@@ -71,7 +71,9 @@ and-or = bin_ind (λ (a : ℕ). (b m : ℕ) → bit_and (bit_or a b) m ≡ bit_o
 
 neither : (a b : ℕ) → eqb (bit_or a b) 0 ≡ (eqb a 0 && eqb b 0)
 neither zero b = refl
-neither (suc a) b = ne_eqb (bit_or (suc a) b) 0 (λ e. omega (arith, or_add_and (suc a) b, and_le_r (suc a) b)) ∙ sym (ap (λ (t : Bool). t && eqb b 0) (ne_eqb (suc a) 0 (λ e. omega arith)))
+neither (suc a) b =
+    ne_eqb (bit_or (suc a) b) 0 (λ e. omega (arith, or_add_and (suc a) b, and_le_r (suc a) b))
+    ∙ sym (ap (λ (t : Bool). t && eqb b 0) (ne_eqb (suc a) 0 (λ e. omega arith)))
 
 -- a word of bytes, the lowest first
 abbrev digits : (ℕ → ℕ) → ℕ → ℕ
@@ -127,13 +129,15 @@ bits-of f (suc n) (suc m) l small =
     let mask = high_bits m in
     let w : f 0 + 256 * rest ≡ rest * 2 ^ 8 + f 0 = omega arith in
     let h : 254 + 256 * mask ≡ mask * 2 ^ 8 + 254 = omega arith in
-    let b : bit_and (rest * 2 ^ 8 + f 0) (mask * 2 ^ 8 + 254) ≡ bit_and rest mask * 2 ^ 8 + bit_and (f 0) 254 = and_block 8 rest mask (f 0) 254 (small 0) (omega arith) in
+    let b : bit_and (rest * 2 ^ 8 + f 0) (mask * 2 ^ 8 + 254) ≡ bit_and rest mask * 2 ^ 8 + bit_and (f 0) 254 =
+    and_block 8 rest mask (f 0) 254 (small 0) (omega arith) in
     ap (λ (x : ℕ). eqb x 0) (ap₂ bit_and w h ∙ b) ∙ both_zero (bit_and rest mask) (bit_and (f 0) 254)
     ∙ ap₂ ◌&&◌ (bit_byte (f 0) (small 0)) (bits-of (λ j. f (suc j)) n m (omega arith) (λ k. small (suc k))) ∙ sym (every-head (λ k. leb (f k) 1) n)
 
 digits-same : (f g : ℕ → ℕ) (n : ℕ) → ((j : ℕ) → j < n → f j ≡ g j) → digits f n ≡ digits g n
 digits-same f g zero e = refl
-digits-same f g (suc n) e = let a = e 0 (omega arith) in let b = digits-same (λ j. f (suc j)) (λ j. g (suc j)) n (λ j h. e (suc j) (omega arith)) in omega arith
+digits-same f g (suc n) e =
+    let a = e 0 (omega arith) in let b = digits-same (λ j. f (suc j)) (λ j. g (suc j)) n (λ j h. e (suc j) (omega arith)) in omega arith
 
 -- the bytes of a list from place p on
 abbrev pub from : List ℕ → ℕ → ℕ → ℕ
@@ -149,7 +153,8 @@ read_8 t p w e = e ∙ whole (take 8 (drop p t)) ∙ part t p 8
     whole b = omega arith
 
 -- so many bytes more
-pub bits-next : (t : List ℕ) (all w p m : ℕ) → m ≤ 8 → ((k : ℕ) → get_or t k 0 < 256) → eqb (bit_and all 0xFEFE_FEFE_FEFE_FEFE) 0 ≡ every (is_bit_at t) p
+pub bits-next : (t : List ℕ) (all w p m : ℕ) → m ≤ 8 → ((k : ℕ) → get_or t k 0 < 256)
+    → eqb (bit_and all 0xFEFE_FEFE_FEFE_FEFE) 0 ≡ every (is_bit_at t) p
     → w ≡ digits (from t p) m → eqb (bit_and (bit_or all w) 0xFEFE_FEFE_FEFE_FEFE) 0 ≡ every (is_bit_at t) (p + m)
 bits-next t all w p m l small before e =
     ap (λ (x : ℕ). eqb x 0) (and-or all w 0xFEFE_FEFE_FEFE_FEFE) ∙ neither (bit_and all 0xFEFE_FEFE_FEFE_FEFE) (bit_and w 0xFEFE_FEFE_FEFE_FEFE)
@@ -168,8 +173,10 @@ chunk-at n (suc c) t d (suc k) p h e =
 abbrev pub Seen : List ℕ → ℕ → ℕ → Type 0
 Seen t all p = eqb (bit_and all 0xFEFE_FEFE_FEFE_FEFE) 0 ≡ every (is_bit_at t) p
 
-pub word-next : (t : List ℕ) (ws : List (List ℕ)) (a k all w : ℕ) → ((i : ℕ) → Fits w8 (get_or t i 0)) → a ≤ length t → ws ≡ first_chunks 8 (length (take a t) / 8) (take a t)
-    → length ws ≡ length (take a t) / 8 → k < length ws → Seen t all (k * 8) → w ≡ from_le_bytes w64 (get_or ws k []) → Seen t (bit_or all w) ((k + 1) * 8)
+pub word-next : (t : List ℕ) (ws : List (List ℕ)) (a k all w : ℕ) → ((i : ℕ) → Fits w8 (get_or t i 0)) → a ≤ length t
+    → ws ≡ first_chunks 8 (length (take a t) / 8) (take a t)
+    → length ws ≡ length (take a t) / 8 → k < length ws → Seen t all (k * 8) → w ≡ from_le_bytes w64 (get_or ws k [])
+    → Seen t (bit_or all w) ((k + 1) * 8)
 word-next t ws a k all w typed m f n h before e =
     let long : length (take a t) ≡ a = length-take-le a t m in
     let p : k * 8 + 8 ≡ (k + 1) * 8 = omega arith in
@@ -181,7 +188,8 @@ word-next t ws a k all w typed m f n h before e =
 
 pub byte-next : (t : List ℕ) (k all : ℕ) → ((i : ℕ) → Fits w8 (get_or t i 0)) → Seen t all k → Seen t (bit_or all (get_or t k 0)) (k + 1)
 byte-next t k all typed before =
-    bits-next t all (get_or t k 0) k 1 (omega arith) (λ j. (typed j).fits) before (let z : k + 0 ≡ k = omega arith in omega (arith, ap (λ (x : ℕ). get_or t x 0) z))
+    bits-next t all (get_or t k 0) k 1 (omega arith) (λ j. (typed j).fits) before
+    (let z : k + 0 ≡ k = omega arith in omega (arith, ap (λ (x : ℕ). get_or t x 0) z))
 
 pub bits-done : (t : List ℕ) (all k : ℕ) → k ≤ length t → length t ≤ k → Seen t all k → eqb (bit_and all 0xFEFE_FEFE_FEFE_FEFE) 0 ≡ are_bits t
 unfolding are_bits
@@ -192,7 +200,8 @@ every-joined : (q : ℕ → Bool) (p a m : ℕ) → a ≤ p → p ≤ a + m → 
 every-joined q p a m l h = same-when _ _
     (λ e. let b = both _ _ e in every-all q (a + m) (λ k u. by_cases (dec_lt k p) (every-at q p k b.0)
     (λ v. let z : a + (k - a) ≡ k = omega arith in subst (λ (x : ℕ). q x ≡ true) z (every-at (λ j. q (a + j)) m (k - a) b.1 (omega arith)))))
-    (λ e. ap₂ ◌&&◌ (every-all q p (λ k u. every-at q (a + m) k e (omega arith))) (every-all (λ j. q (a + j)) m (λ k u. every-at q (a + m) (a + k) e (omega arith))))
+    (λ e. ap₂ ◌&&◌ (every-all q p (λ k u. every-at q (a + m) k e (omega arith)))
+    (every-all (λ j. q (a + j)) m (λ k u. every-at q (a + m) (a + k) e (omega arith))))
   where
     same-when : (x y : Bool) → (x ≡ true → y ≡ true) → (y ≡ true → x ≡ true) → x ≡ y
     same-when true y f g = sym (f refl)
@@ -200,7 +209,8 @@ every-joined q p a m l h = same-when _ _
     same-when false false f g = refl
 
 -- the last eight bytes, of which some may have been passed
-pub last-done : (t b : List ℕ) (c k all w : ℕ) → ((i : ℕ) → Fits w8 (get_or t i 0)) → 8 ≤ length t → b ≡ drop (length t - 8) t → c ≡ length (take (length t - 1) t) / 8
+pub last-done : (t b : List ℕ) (c k all w : ℕ) → ((i : ℕ) → Fits w8 (get_or t i 0)) → 8 ≤ length t → b ≡ drop (length t - 8) t
+    → c ≡ length (take (length t - 1) t) / 8
     → c ≤ k → k ≤ c → Seen t all (k * 8) → w ≡ from_le_bytes w64 b → eqb (bit_and (bit_or all w) 0xFEFE_FEFE_FEFE_FEFE) 0 ≡ are_bits t
 unfolding are_bits
 last-done t b c k all w typed l e n h g before r =

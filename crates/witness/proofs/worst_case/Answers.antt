@@ -2,5 +2,5 @@
 use Rattle.witness.proofs.Reached.{worst-case-is-reached}
 use Rattle.witness.proofs.worst_case.Goals as goal
 
-pub returns-clause-worst_case_is_reached : goal.returns-clause-worst_case_is_reached
-returns-clause-worst_case_is_reached c = worst-case-is-reached
+pub returns : goal.returns
+returns c = worst-case-is-reached

@@ -20,7 +20,8 @@ loop-word-init c = sym (every-start (is_bit_at c.args.list.now))
 pub loop-word-preserved : goal.loop-word-preserved
 loop-word-preserved c =
     let e = c.as_chunks.ensures in
-    word-next _ _ _ _ _ _ c.type_inv.list (omega (arith, c.in-Some.ensures.cases)) e.front e.front_len c.loop-word-test.true c.loop-word.invariant c.from_le_bytes-all.ensures
+    word-next _ _ _ _ _ _ c.type_inv.list
+    (omega (arith, c.in-Some.ensures.cases)) e.front e.front_len c.loop-word-test.true c.loop-word.invariant c.from_le_bytes-all.ensures
 
 pub returns : goal.returns
 returns c =

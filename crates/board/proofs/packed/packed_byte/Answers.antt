@@ -25,7 +25,9 @@ overflow_add-byte c =
 pub loop-k-preserved : goal.loop-k-preserved
 loop-k-preserved c = record {
   within = omega (arith, c.loop-k.invariant.within);
-  done = one-more c.args.row.now (8 * c.args.b) c.loop-k.k c.loop-k.byte c.loop-k.invariant.done c.loop-k-test.true _ c.loop-k.invariant.within c.suspicion.ensures;
+  done =
+      one-more c.args.row.now
+      (8 * c.args.b) c.loop-k.k c.loop-k.byte c.loop-k.invariant.done c.loop-k-test.true _ c.loop-k.invariant.within c.suspicion.ensures;
 }
 
 pub returns : goal.returns

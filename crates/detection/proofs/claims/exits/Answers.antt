@@ -2,5 +2,5 @@
 use Rattle.detection.proofs.ReplyEffect.{reply-ends}
 use Rattle.detection.proofs.claims.exits.Goals as goal
 
-pub returns-clause-reply_ends : goal.returns-clause-reply_ends
-returns-clause-reply_ends c = reply-ends
+pub returns : goal.returns
+returns c = reply-ends

@@ -16,7 +16,12 @@ bit-added true x = refl
 bit-added false x = omega arith
 
 pub act-done-requires : goal.act-done-requires
-act-done-requires c = record { same_size = c.requires.same_size; table_obeys = c.requires.table_obeys; station_below = (entry-facts _ _ _ c.requires.entry_taken).below }
+act-done-requires c =
+    record {
+      same_size = c.requires.same_size;
+      table_obeys = c.requires.table_obeys;
+      station_below = (entry-facts _ _ _ c.requires.entry_taken).below;
+    }
 
 pub close_round-over-requires : goal.close_round-over-requires
 close_round-over-requires c = omega (arith, (entry-facts _ _ _ c.requires.entry_taken).below)

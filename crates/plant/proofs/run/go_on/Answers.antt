@@ -19,7 +19,8 @@ returns-in-Err-clause-run c =
     let h : l.kind-index < length c.args.schedule.now / 2 = omega (arith, c.as_chunks.ensures.front_len) in
     let r = rw (c.read.ensures.same_size, c.read.ensures.same_bytes, i.loan.size, c.as_chunks.ensures.front) at c.in-Err.ensures.check in
     let s = state_with l.lent.bytes.now l.ran.tally in
-    rw (sym i.goes ∙ go-stopped (wiring_number c.args.wiring) c.args.table.now.n l.kind-index s l.sheet c.args.schedule.now _ h (sym r), i.count) (search rules)
+    rw (sym i.goes ∙ go-stopped (wiring_number c.args.wiring) c.args.table.now.n l.kind-index s l.sheet c.args.schedule.now _ h (sym r), i.count)
+    (search rules)
 
 pub take_entry-ran-requires : goal.take_entry-ran-requires
 take_entry-ran-requires c =
@@ -67,4 +68,5 @@ returns-clause-run c =
     let i = l.invariant in
     let h : length c.args.schedule.now / 2 ≤ l.kind-index = omega (arith, c.as_chunks.ensures.front_len) in
     let s = state_with l.lent.bytes.now l.ran.tally in
-    rw (sym i.goes ∙ go-done (wiring_number c.args.wiring) c.args.table.now.n l.kind-index s l.sheet c.args.schedule.now h, i.going, i.count) (search rules)
+    rw (sym i.goes ∙ go-done (wiring_number c.args.wiring) c.args.table.now.n l.kind-index s l.sheet c.args.schedule.now h, i.going, i.count)
+    (search rules)

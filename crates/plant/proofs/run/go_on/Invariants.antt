@@ -15,6 +15,7 @@ invariant-loop-kind l = record {
   rules : Accepted (wiring_number l.fn.wiring) l.initial.lent.n l.lent.bytes.now;
   count : l.ran.taken ≡ l.kind-index;
   going : l.ran.stopped ≡ None;
-  goes : go_on (wiring_number l.fn.wiring) l.initial.lent.n l.kind-index (state_with l.lent.bytes.now l.ran.tally) l.sheet (drop l.kind-index (entries l.schedule))
+  goes : go_on (wiring_number l.fn.wiring) l.initial.lent.n l.kind-index (state_with l.lent.bytes.now l.ran.tally) l.sheet
+      (drop l.kind-index (entries l.schedule))
       ≡ go_on (wiring_number l.fn.wiring) l.initial.lent.n 0 (state_with l.initial.lent.bytes.now l.fn.tally) l.initial.sheet (entries l.schedule);
 }

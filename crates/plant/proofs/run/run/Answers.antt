@@ -17,4 +17,8 @@ pub returns : goal.returns
 returns c =
     let a = c.args in
     let z = ap number_of_result (sym c.in-Ok.ensures.check) in
-    rw (run-goes a.wiring a.n (state_with a.table.now a.tally) a.schedule.now a.sheet.now z, ← c.in-Ok.ensures.same_size, ← c.in-Ok.ensures.same_wiring) (search rules)
+    rw (
+      run-goes a.wiring a.n (state_with a.table.now a.tally) a.schedule.now a.sheet.now z,
+      ← c.in-Ok.ensures.same_size,
+      ← c.in-Ok.ensures.same_wiring,
+    ) (search rules)
