@@ -1488,6 +1488,32 @@ static void try_halves(void)
     need(nodes[1].entries == 5, "a half that came before the board fell behind is dropped");
 }
 
+/* A turn is made once, by a reply of this turn and of the board tested. Of exchanges that of the turn that is entered is joined. */
+static void try_turn(void)
+{
+    const uint8_t row[1] = {0};
+
+    start_in_step(5);
+    hear_note_of(0, 5, 1, NOTE_FINISHED, 0, VCUBE_NO_STATION);
+    need(count_out(VCUBE_FRAME_TEST) == 1 && nodes[1].tested == 0, "a board that is granted tests");
+    come_alone(2, 1, VCUBE_FRAME_REPLY, 6, sizeof row, row);
+    come_alone(0, 1, VCUBE_FRAME_REPLY, 5, sizeof row, row);
+    step_board();
+    need(nodes[1].turn == VCUBE_NODE_TESTING, "a reply of another board, or of another turn, is thrown away");
+    come_alone(0, 1, VCUBE_FRAME_REPLY, 6, sizeof row, row);
+    step_board();
+    need(count_out(VCUBE_FRAME_EXCHANGE) == 1, "the reply ends the turn");
+    hear_note_of(0, 5, 1, NOTE_FINISHED, 0, VCUBE_NO_STATION);
+    need(count_out(VCUBE_FRAME_EXCHANGE) == 1 && count_out(VCUBE_FRAME_TEST) == 0, "an ended turn is not made again, and its end is sent again");
+    for (uint8_t tester = 0; tester <= 2; tester += 2) {
+        start_in_step(5);
+        come_alone(tester, 1, VCUBE_FRAME_EXCHANGE, 6, sizeof row, row);
+        step_board();
+        hear_note_of(0, 6, 0, NOTE_OF(VCUBE_KIND_TURN, VCUBE_OUTCOME_EXCHANGED), 0, 1);
+        need(nodes[1].entries == (tester == 0 ? 6u : 5u), "the exchange of the board whose turn is entered is joined, and no other");
+    }
+}
+
 /* A board that is behind answers no test before it has its line. */
 static void try_behind(void)
 {
@@ -1626,10 +1652,11 @@ static void try_reset(void)
     }
 }
 
-/* A step ends although frames come without end. */
+/* A step ends although frames come without end. Outputs go off by the clock alone, also while no step is made. */
 static void try_babbler(void)
 {
     start_in_step(5);
+    need(!vcube_node_outputs_on(&nodes[1], bench.now + QUIET), "outputs go off although no step is made");
     bench.has_babbler = true;
     step_board();
     bench.now += QUIET;
@@ -1683,6 +1710,7 @@ static void try_cases(void)
     try_silence();
     try_probe();
     try_halves();
+    try_turn();
     try_behind();
     try_notes();
     try_old_line();

@@ -33,11 +33,13 @@ WRONG = [
     ('4 --kill 1@1s --kill 1@2s', 2, '', 'plant: board 1 is killed before: nothing can be done to it after that\n'),
     ('8 --can vcan0 --loss 5%', 2, '', 'plant: no frame can be lost, twice or late by an option on a CAN interface\n'),
     ('2 --rounds 1 --reply 600ms >/dev/full', 1, '', 'plant: [Errno 28] No space left on device\n'),
-    ('4 --reply 600ms | head -n 1 >&2', 0, '', re.compile(r' +\d\.\d{3} s  board 0 tests 1: exchanged\n')),
-    ('4 --reply 600ms --rounds 1 --brief', 0, re.compile(r'(?s).*\b1 round closed, \d+ entries; live: 0, 1, 2 and 3\n'), ''),
+    ('4 --reply 600ms | grep -m 1 tests >&2', 0, '', re.compile(r' +\d\.\d{3} s  board 0 tests 1: exchanged\n')),
+    ('4 --reply 600ms --rounds 2 --brief', 0, re.compile(r'(?s).*\b\d+ rounds closed, \d+ entries; live: 0, 1, 2 and 3\n'), ''),
+    ('2 --reply 600ms --rounds 1 --brief --pace 400ms', 0, re.compile(r'(?s).*\b1 round closed, 4 entries; live: 0 and 1\n'), ''),
     # A folder that was kept before: the bus master begins anew.
     ('4 --reply 600ms --rounds 9 --brief --keep $TMPDIR/kept >/dev/null && ./plant 4 --reply 600ms --rounds 1 --restart 0.001s --brief '
-     '--keep $TMPDIR/kept && rm -r $TMPDIR/kept', 0, re.compile(r'(?s).*\b[1-5] rounds? closed, \d+ entries; live: 0, 1, 2 and 3\n'), ''),
+     '--keep $TMPDIR/kept && grep -m 1 -o " entry [0-9]*" $TMPDIR/kept/master.log && rm -r $TMPDIR/kept', 0,
+     re.compile(r'(?s).*\brounds? closed, \d+ entries; live: 0, 1, 2 and 3\n entry 1\n'), ''),
     ('2 --reply 600ms --board 1=false', 1, '', 'plant: board 1 does not start\n'),
     ('2 --reply 600ms --record /nothing/there', 1, '',
      'master: /nothing/there: No such file or directory\nplant: the master ended by itself, with status 1\n'),
@@ -72,7 +74,9 @@ def none_left(what, session, members):
 def ended(plant, how, members, folder):
     """A plant that runs without an end: by Ctrl-C and by the end of the terminal, which go to all processes; by a kill; by the death of a board. One
     of whose boards the computer does not let run says so first."""
-    process = subprocess.Popen([plant, '4', '--reply', '600ms'], env={**os.environ, 'TMPDIR': folder}, stdin=subprocess.DEVNULL,
+    # A board that is stopped for 1.2 s tells it, as frames come every half second at least, and makes no reply late.
+    reply = '2s' if how == 'a board is stopped by others' else '600ms'
+    process = subprocess.Popen([plant, '4', '--reply', reply], env={**os.environ, 'TMPDIR': folder}, stdin=subprocess.DEVNULL,
                                stdout=subprocess.PIPE, stderr=subprocess.PIPE, start_new_session=True)
     process.stdout.readline()
     if how == 'Ctrl-C':
@@ -89,7 +93,7 @@ def ended(plant, how, members, folder):
         board = next(pid for pid in members(process.pid) if command_of(pid)[-6:-4] == ['4', '2'])
         os.kill(board, signal.SIGKILL if how == 'a board ends' else signal.SIGSTOP)
     if how == 'a board is stopped by others':
-        time.sleep(0.3)
+        time.sleep(1.2)
         os.kill(board, signal.SIGCONT)
         time.sleep(0.5)
         process.terminate()
@@ -105,7 +109,7 @@ def ended(plant, how, members, folder):
         yield f'{how}: status {process.returncode}, not {status}: {err}'
     if status == 0 and not re.search(r'rounds? closed, \d+ entr(y|ies); live: 0, 1, 2 and 3\n$', out):
         yield f'{how}: it ends with {out[-100:]!r}'
-    if how == 'a board is stopped by others' and not re.search(r'board 2 could not run for \d+ ms\. .* take a longer --reply\n', out):
+    if how == 'a board is stopped by others' and not re.search(r' could not run for \d+ ms\. .* take a longer --reply\n', out):
         yield f'{how}: it does not say so: {out[-400:]!r}'
     if how == 'a board ends' and err != 'plant: board 2 ended by itself, with status -9\n':
         yield f'{how}: it says {err!r}'
