@@ -23,8 +23,8 @@ unfolding whole_run bytes_value bytes_of concat_of fields_up_to fields runs_past
 examples-hold = refl
 
 pub conversions : Conversions
-unfolding whole_run bytes_value bytes_of concat_of field_bytes fields_up_to fields fields_of tagged size_in tally_rounds tally_tests of_station table_in
-    line_of front_fields saved_lines saved converted_line old_line_of converted_table converted two_boards
+unfolding whole_run bytes_value bytes_of concat_of field_bytes fields_up_to fields fields_of tagged size_in tally_rounds tally_tests of_station
+    table_in line_of front_fields saved_lines saved converted_line old_line_of converted_table converted two_boards
 conversions = (refl, refl, refl)
 
 pub old-examples-hold : OldExamplesHold
