@@ -1459,7 +1459,16 @@ static void try_silence(void)
     need(bench.silences == 1, "silence G and P after a board was heard");
 }
 
-/* The time of the probe begins when it has gone out. */
+/* Steps until it probes. */
+static void step_until_probe(void)
+{
+    for (unsigned count = 0; master.phase != VCUBE_MASTER_PROBING; count++) {
+        need(count < 100, "the master probes");
+        step_master(1);
+    }
+}
+
+/* The time of the probe begins when it has gone out. An answer to an earlier probe says nothing. */
 static void try_probe(void)
 {
     const uint8_t here[5] = {1, 0, 0, 0, 0};
@@ -1479,6 +1488,13 @@ static void try_probe(void)
     need(bench.entries == 0 && bench.silences == 0, "the time of a probe runs from when it has gone out");
     step_master(2);
     need(bench.entries == 1 && bench.last.kind == VCUBE_KIND_CRASH && bench.last.station == 0, "the board that is not heard is entered as crashed");
+    start_master();
+    step_until_probe();
+    step_master(25);
+    step_until_probe();
+    come_alone(2, 0, VCUBE_FRAME_HERE, 1, sizeof here, here);
+    step_master(25);
+    need(bench.entries == 0, "an answer to an earlier probe says nothing");
 }
 
 /* A board that answers probes, and does not end its turn, gets the time of a turn three times more, and then is named. */
@@ -1489,10 +1505,7 @@ static void try_no_end(void)
     start_master();
     for (unsigned longer = 0; longer <= 3; longer++) {
         need(bench.entries == 0 && bench.faults == 0, "a board that answers gets the time of a turn three times more");
-        for (unsigned count = 0; master.phase != VCUBE_MASTER_PROBING; count++) {
-            need(count < 100, "the master probes");
-            step_master(1);
-        }
+        step_until_probe();
         here[0] = master.probes;
         come_alone(0, 0, VCUBE_FRAME_HERE, 1, sizeof here, here);
         come_alone(2, 0, VCUBE_FRAME_HERE, 1, sizeof here, here);
