@@ -1550,6 +1550,10 @@ static void try_faults(void)
         come_alone(wrong[at].sender, wrong[at].receiver, wrong[at].kind, 1, !has_row, &wrong[at].row);
         step_master(1);
         need(bench.faults == 0 && bench.entries == 0, "a frame of another turn, or of another length, is no fault");
+        come_alone(3, 0, VCUBE_FRAME_FINISHED, 1, 0, NULL);
+        come_alone(3, 1, VCUBE_FRAME_EXCHANGE, 1, 1, (const uint8_t[]){0});
+        step_master(1);
+        need(bench.faults == 0 && bench.entries == 0, "an end of a board that is not granted is thrown away");
         come_alone(wrong[at].sender, wrong[at].receiver, wrong[at].kind, 1, has_row, &wrong[at].row);
         step_master(2);
         need(bench.faults == 1 && is->kind == should->kind && is->number == should->number && is->board == should->board
