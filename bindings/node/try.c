@@ -1495,6 +1495,14 @@ static void try_probe(void)
     come_alone(2, 0, VCUBE_FRAME_HERE, 1, sizeof here, here);
     step_master(25);
     need(bench.entries == 0, "an answer to an earlier probe says nothing");
+    for (unsigned asks = 0; asks < 2; asks++) {
+        start_master();
+        step_until_probe();
+        come_alone(2, 0, VCUBE_FRAME_HERE, 1, sizeof here, here);
+        come_alone(0, !asks, asks ? VCUBE_FRAME_ASK : VCUBE_FRAME_TEST, 1, 0, NULL);
+        step_master(25);
+        need(bench.entries == 0 && bench.faults == 0, "asking and testing are signs of life");
+    }
 }
 
 /* A board that answers probes, and does not end its turn, gets the time of a turn three times more, and then is named. */
