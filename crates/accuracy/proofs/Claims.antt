@@ -35,14 +35,15 @@ use Rattle.detection.proofs.Fates.{teller-is-named}
 use Rattle.detection.proofs.ExitRecord.{exits-recorded}
 use Rattle.detection.proofs.DrivenDetection.{mixed-left, drives-pass}
 use Rattle.accuracy.specs.Cause.{IsSuspected, late_of, was_late, crash_of, has_crashed, HasCause}
-use Rattle.accuracy.specs.Accurate.{OnlyLateSuspected, ExitCause, ExitsHaveCauses, ToldHaveCauses, told_since, OneToldForEachLate, NoneLate, OneForEachLate, Accurate, RunsAccurate, MixedAccurate, DrivesTellNobody, AccurateAfter}
+use Rattle.accuracy.specs.Accurate.{OnlyLateSuspected, ExitCause, ExitsHaveCauses, ToldHaveCauses, told_since, OneToldForEachLate}
+use Rattle.accuracy.specs.Accurate.{NoneLate, OneForEachLate, Accurate, RunsAccurate, MixedAccurate, DrivesTellNobody, AccurateAfter}
 use Rattle.accuracy.proofs.Step.{CauseAt, Fared, lives, crashed, told, alone, new-suspicion, fared}
 use Rattle.accuracy.proofs.Chains.{any-before, any-last, cause-before, cause-chain, told-at}
 use Rattle.accuracy.proofs.Sums.{bit-most, sum-most, two-hits, count-sum, any-counted, none-passes}
 use Rattle.accuracy.proofs.Quiet.{Calm, Left, stayed, left_told, left_crashed, calm-chain}
 
 -- where no live station suspects a live one, nobody is suspected
-none-suspects : (n : ℕ) (t : List ℕ) → none_suspected n t ≡ true → (j : ℕ) → j < n → IsSuspected n t j → ⊥
+pub none-suspects : (n : ℕ) (t : List ℕ) → none_suspected n t ≡ true → (j : ℕ) → j < n → IsSuspected n t j → ⊥
 unfolding none_suspected
 none-suspects n t none j hj p =
     let mine = every-at (λ k. every (no_live_suspicion n t k) n) n p.0 none p.1 in
@@ -284,5 +285,6 @@ unfolding after_mixed
 after-mixed-last s [] y = refl
 after-mixed-last s (x ∷ ys) y = after-mixed-last (after_one s x) ys y
 
+-- so that a run or drive promises it, wherever it stands behind others
 pub last-accurate : (y : RunOrDrive) (before : State) → AccurateAfter y before (after_one before y)
 last-accurate y before n s ys e long = rw (after-mixed-last s ys y, e) at (mixed-accurate n s (ys ++ (y ∷ [])) long)

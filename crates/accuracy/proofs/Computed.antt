@@ -15,7 +15,8 @@ use Rattle.station.specs.Tests.{unsuspected, first_place, first, answer, due}
 use Rattle.station.specs.Rows.{union_byte, union, mark}
 use Rattle.plant.specs.Turn.{leave_told, next_test, makes_test, finish_pass, count_test, replies, is_told, exchange_rows, suspect, reply_outcome}
 use Rattle.station.specs.Wired.{next_after}
-use Rattle.plant.specs.Turn.{test_outcome, after_outcome, self_or_suspected, is_alone, after_alone, after_test, testing, turn, turn_tested, turn_outcome, crash}
+use Rattle.plant.specs.Turn.{test_outcome, after_outcome, self_or_suspected, is_alone, after_alone}
+use Rattle.plant.specs.Turn.{after_test, testing, turn, turn_tested, turn_outcome, crash}
 use Rattle.plant.specs.Round.{rounds_after, reset_line, reset_lines, after_round}
 use Rattle.plant.specs.Entry.{entry_check, acted, after, tested_of, outcome_of, sheet_line}
 use Rattle.plant.specs.Run.{entries, go_on, start_check, run}

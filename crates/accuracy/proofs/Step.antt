@@ -16,7 +16,8 @@ use Rattle.lists.proofs.BoolLaws.{by_bool, choice}
 use Rattle.lists.proofs.SearchLaws.{both, every-at}
 use Rattle.table.proofs.Accepting.{Accepted}
 use Rattle.table.proofs.CellLaws.{ClosingChanges, cell_same, cell_other}
-use Rattle.plant.specs.Turn.{kind_turn, kind_late, leave_told, makes_test, replies, is_told, exchange_rows, suspect, reply_outcome, test_outcome, after_outcome, self_or_suspected, is_alone, after_alone, after_test, testing, turn, turn_tested, crash}
+use Rattle.plant.specs.Turn.{kind_turn, kind_late, leave_told, makes_test, replies, is_told, exchange_rows, suspect, reply_outcome, test_outcome}
+use Rattle.plant.specs.Turn.{after_outcome, self_or_suspected, is_alone, after_alone, after_test, testing, turn, turn_tested, crash}
 use Rattle.station.specs.Outcome.{outcome_exchanged, outcome_told, outcome_tested_told}
 use Rattle.plant.specs.Round.{after_round}
 use Rattle.plant.specs.Entry.{Entry, State, is_crash, entry_refusal, acted, after, tested_of}

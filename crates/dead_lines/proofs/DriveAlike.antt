@@ -18,7 +18,8 @@ use Rattle.plant.specs.Entry.{Entry, State, entry_of, tally_full, entry_refusal}
 use Rattle.plant.proofs.RulesKept.{accepted-kept}
 use Rattle.plant.proofs.RunLaws.{accepted-number}
 use Rattle.granter.specs.Grant.{waits, first_from, following, granted, grant_check, grant_refusal, grant_answer}
-use Rattle.granter.specs.Drive.{Stand, stand_at, granted_at, grant_turn, after_grants, ended, ended_after, stops, grants_made, drive_outcome, outcome_after, drive, Stopped}
+use Rattle.granter.specs.Drive.{Stand, stand_at, granted_at, grant_turn, after_grants, ended, ended_after}
+use Rattle.granter.specs.Drive.{stops, grants_made, drive_outcome, outcome_after, drive, Stopped}
 use Rattle.granter.proofs.GrantLaws.{grantable, grant_ok, waits-is}
 use Rattle.granter.proofs.DriveLaws.{not_stopped, next-taken, drive-made}
 use Rattle.granter.proofs.Stops.{drive-stops}
@@ -27,7 +28,8 @@ use Rattle.detection.proofs.DriveRuns.{driving-at}
 use Rattle.dead_lines.specs.Alike.{Alike, StayAlike, SameDrive, IsOn, wiring_given, GrantOfAlike, DriveOfAlike, answer_of, answers_of, MixedOfAlike}
 use Rattle.dead_lines.proofs.Writes.{Twins, Step, still, then}
 use Rattle.dead_lines.proofs.TurnAlike.{some-live-same, finished-same}
-use Rattle.dead_lines.proofs.RunAlike.{Both, refusal-same, after-step, after-both, alike-both, size-is, tables-checked, stays, stay-still, stay-then, run-of-alike}
+use Rattle.dead_lines.proofs.RunAlike.{Both, refusal-same, after-step, after-both, alike-both, size-is}
+use Rattle.dead_lines.proofs.RunAlike.{tables-checked, stays, stay-still, stay-then, run-of-alike}
 
 -- who is granted goes by who waits
 module _ (n : ℕ) (t u : List ℕ) (tw : Twins n t u) where

@@ -11,13 +11,16 @@ use lib.ListN.{length}
 use Rattle.lists.proofs.BoolLaws.{by_bool, every-same}
 use Rattle.lists.proofs.SearchLaws.{both}
 use Rattle.table.specs.Wiring.{end_distance}
-use Rattle.table.specs.Table.{head, table_length, status_column, next_column, finished_column, tests_column, told_by_column, tests_made, live, row, status_told, status_alone, status_crashed}
+use Rattle.table.specs.Table.{head, table_length, status_column, next_column, finished_column, tests_column}
+use Rattle.table.specs.Table.{told_by_column, tests_made, live, row, status_told, status_alone, status_crashed}
 use Rattle.table.specs.Rules.{not_live, some_live, finished_if_live, live_finished, round_over}
 use Rattle.table.proofs.CellLaws.{row_same, row-length}
 use Rattle.station.specs.Wired.{wired_station}
 use Rattle.station.specs.Rows.{union, mark}
 use Rattle.station.proofs.UnionLaws.{union-length, mark-length}
-use Rattle.plant.specs.Turn.{set_status, leave_told, next_test, makes_test, finish_pass, count_test, replies, is_told, exchange_rows, suspect, reply_outcome, test_outcome, after_outcome, after_test, self_or_suspected, is_alone, after_alone, outcome_at, testing, turn, turn_tested, turn_outcome, crash}
+use Rattle.plant.specs.Turn.{set_status, leave_told, next_test, makes_test, finish_pass, count_test, replies, is_told}
+use Rattle.plant.specs.Turn.{exchange_rows, suspect, reply_outcome, test_outcome, after_outcome, after_test, self_or_suspected}
+use Rattle.plant.specs.Turn.{is_alone, after_alone, outcome_at, testing, turn, turn_tested, turn_outcome, crash}
 use Rattle.station.specs.Outcome.{outcome_exchanged, outcome_told, outcome_tested_told}
 use Rattle.station.specs.Wired.{next_after}
 use Rattle.plant.specs.Entry.{Entry, is_crash, is_test, acted, tested_of, outcome_of}
@@ -78,7 +81,8 @@ module _ (w n : ℕ) (t u : List ℕ) (tw : Twins n t u) (i : ℕ) (h : i < n) (
   counting : (m o : ℕ) → Step n t u (count_test w n t i m o) (count_test w n u i m o)
   unfolding count_test
   counting m o =
-      let one = write-cell n t u tw.long tw.other_long i h next_column (next_after w n m o) (next_after w n m o) (omega arith) refl (λ p. omega arith) in
+      let next : ℕ = next_after w n m o in
+      let one = write-cell n t u tw.long tw.other_long i h next_column next next (omega arith) refl (λ p. omega arith) in
       then one (write-cell n _ _ (one.long ∙ tw.long) (one.other_long ∙ tw.other_long) i h tests_column (tests_made n t i + 1) (tests_made n u i + 1)
       (omega arith) (ap (λ (x : ℕ). x + 1) (line tests_column (omega arith))) (λ p. omega arith))
 
@@ -134,7 +138,9 @@ module _ (n : ℕ) (t u : List ℕ) (tw : Twins n t u) (i j : ℕ) (h : i < n) (
 
   suspecting : Step n t u (suspect n t i j) (suspect n u i j)
   unfolding suspect
-  suspecting = rw tester (write-row n t u tw.long tw.other_long i h (mark (row n u i) j) (mark-length (row n u i) j ∙ row-length n u i tw.other_long h))
+  suspecting =
+      let long = mark-length (row n u i) j ∙ row-length n u i tw.other_long h in
+      rw tester (write-row n t u tw.long tw.other_long i h (mark (row n u i) j) long)
 
   -- by its outcome
   by-outcome : (o : ℕ) → (o ≡ outcome_exchanged → live n t j ≡ true) → Step n t u (after_outcome n t i j o) (after_outcome n u i j o)

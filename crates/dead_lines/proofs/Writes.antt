@@ -8,7 +8,8 @@ use native.Mathlib.Decide.{dec_lt, ℕ_discrete}
 use native.Mathlib.Omega.{arith}
 use borrow.Author.Tests.{eqb-true}
 use lib.ListN.{length}
-use Rattle.table.specs.Table.{head, stride, table_length, cell, set_cell, status_column, next_column, finished_column, tests_column, rounds_ago_column, status, rounds_ago, live, set_row}
+use Rattle.table.specs.Table.{head, stride, table_length, cell, set_cell, status_column, next_column}
+use Rattle.table.specs.Table.{finished_column, tests_column, rounds_ago_column, status, rounds_ago, live, set_row}
 use Rattle.table.proofs.CellLaws.{cell_same, cell_other, set_cell-length, set_row-length, set_row-in, set_row-out}
 use Rattle.lists.specs.Steps.{after_steps}
 use Rattle.plant.specs.Round.{rounds_after, reset_line, reset_lines}

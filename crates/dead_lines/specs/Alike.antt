@@ -106,12 +106,3 @@ abbrev pub MixedOfAlike : Type 0
 MixedOfAlike =
     (w n : ℕ) (s r : State) → Alike w n s r → (xs : List RunOrDrive) → MixedOn w xs
     → (answers_of s xs ≡ answers_of r xs) × StayAlike w n s r (after_mixed s xs) (after_mixed r xs)
-
--- Rule Dead lines, of one run or drive that was made of s with this outcome: made of any state alike to s it answers the same
-abbrev pub RunIgnoresDeadLines : State → ℕ → ℕ → List ℕ → List ℕ → RunResult → Type 0
-RunIgnoresDeadLines s v m schedule sheet outcome =
-    (w n : ℕ) (r : State) → Alike w n s r → IsOn w v → SameRun w n s r outcome (run v m r schedule sheet)
-
-abbrev pub DriveIgnoresDeadLines : State → ℕ → ℕ → ℕ → DriveResult → Type 0
-DriveIgnoresDeadLines s v m last outcome =
-    (w n : ℕ) (r : State) → Alike w n s r → IsOn w v → SameDrive w n s r outcome (drive v m r last)

@@ -47,7 +47,8 @@ exact_bytes n L t p rows i j hi hj li lj =
     sym (row_at n t i j hj) ∙ ap (λ (r : List ℕ). get_or r j 0) (rows i hi (p.lives i hi ∙ li)) ∙ list_of-at (λ j. bit (not_live n t j)) n j hj
     ∙ ap (λ b. bit (not b)) (p.lives j hj ∙ lj)
 
-module _ (n : ℕ) (s : State) (calls : List Call) (given : DetectionPremises wiring_cube n s calls) (k : ℕ) (closed : k < length (rounds_of s calls).closed) where
+module _ (n : ℕ) (s : State) (calls : List Call) (given : DetectionPremises wiring_cube n s calls) (k : ℕ)
+    (closed : k < length (rounds_of s calls).closed) where
   abbrev L : ℕ → Bool
   L = live n s.table
 
@@ -61,7 +62,8 @@ module _ (n : ℕ) (s : State) (calls : List Call) (given : DetectionPremises wi
       go (inr ok) = ok
 
   tests-are-the-due : Exact n L ((history n s calls given accepted).0.start k) → TestsAreTheDue n s calls k
-  tests-are-the-due e i h l = ((history n s calls given accepted).0.gave k closed).listed e i h l ∙ ap (map (station_at i)) (sym (exact-list n s.table i))
+  tests-are-the-due e i h l =
+      ((history n s calls given accepted).0.gave k closed).listed e i h l ∙ ap (map (station_at i)) (sym (exact-list n s.table i))
 
 pub exact-round-tests : ExactRoundTests
 exact-round-tests n s calls given k closed rows =

@@ -16,7 +16,7 @@ use Rattle.plant.proofs.RunLaws.{start-facts}
 use Rattle.plant.specs.Entry.{Entry, State, entry_refusal, after, sheet_line}
 use Rattle.plant.specs.Run.{entries, write_line, go_on, start_check, start_refusal, run}
 use Rattle.plant.proofs.RulesKept.{accepted-kept}
-use Rattle.detection.specs.Runs.{Call, Taken, after_run, after_runs, taken_from, taken_in, taken_all, is_on}
+use Rattle.detection.specs.Runs.{Call, Taken, CountsTaken, after_run, after_runs, taken_from, taken_in, taken_all, is_on}
 use Rattle.detection.specs.Rounds.{all_taken}
 use Rattle.lists.proofs.BoolLaws.{by_bool}
 use Rattle.lists.proofs.SearchLaws.{both}
@@ -106,7 +106,7 @@ taken-from w n k s sheet (e ∷ es) =
     (λ t. rw t (omega (arith, taken-from w n (suc k) (after w n s e) (write_line sheet k (sheet_line w n s e)) es))) (λ t. rw t (omega arith))
 
 -- a run answers how many entries it takes
-pub taken_is : (s : State) (c : Call) → (run c.wiring c.size s c.schedule c.sheet).taken ≡ length (taken_in s c)
+pub taken_is : (s : State) (c : Call) → CountsTaken c s (run c.wiring c.size s c.schedule c.sheet).taken
 unfolding taken_in run
 taken_is s c =
     by_bool (eqb (start_refusal c.wiring c.size s.table (length c.schedule) (length c.sheet)) 0)

@@ -77,7 +77,8 @@ first-by-level q j d = sum-levels _ d ∙ (zero-add _ ∙ sum_by d (λ h l. sum_
 
 -- a sum over stations and distances, by the station at the distance
 sum-tested : (f : ℕ → ℕ → ℕ → ℕ) (d : ℕ)
-    → sum_below (λ i. sum_below (λ m. f i (station_at i m) m) (2 ^ d)) (2 ^ d) ≡ sum_below (λ j. sum_below (λ m. f (station_at j m) j m) (2 ^ d)) (2 ^ d)
+    → sum_below (λ i. sum_below (λ m. f i (station_at i m) m) (2 ^ d)) (2 ^ d)
+    ≡ sum_below (λ j. sum_below (λ m. f (station_at j m) j m) (2 ^ d)) (2 ^ d)
 sum-tested f d =
     sum-swap (λ i m. f i (station_at i m) m) (2 ^ d) (2 ^ d)
     ∙ (sum_by (2 ^ d) (λ m l. sum_by (2 ^ d) (λ i li. rw (xor-undo i m)) ∙ sum-xor (λ j. f (station_at j m) j m) d m l)

@@ -200,7 +200,8 @@ module _ (w n : ℕ) (L : ℕ → Bool) (K : RoundKnowledge w n L) (company : Co
           rw (closing-is ∙ over) (r.0, omega (arith, rw over at r.1.rounds, r.1.tests, tests-after, count-snoc taken_test cur x))
 
 -- a chain, cut into rounds
-pub course : (w n : ℕ) (L : ℕ → Bool) (K : RoundKnowledge w n L) → is_size n ≡ true → Company n L → {s s' : State} {xs : List Taken} → WiredChain w n s xs s'
+pub course : (w n : ℕ) (L : ℕ → Bool) (K : RoundKnowledge w n L) → is_size n ≡ true → Company n L
+    → {s s' : State} {xs : List Taken} → WiredChain w n s xs s'
     → all_taken (λ x. not (crashes x)) xs ≡ true → all_taken (λ x. not (is_late x)) xs ≡ true
     → (t₀ : List ℕ) (cur : List Taken) → InRound w n L t₀ cur s.table → K.Knows t₀ cur s.table → CutFrom w n L K t₀ cur s xs s'
 unfolding all_taken

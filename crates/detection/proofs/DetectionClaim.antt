@@ -26,7 +26,10 @@ use Rattle.lists.specs.Sums.{bit}
 use Rattle.detection.specs.Runs.{Call, taken_all, after_run, after_runs}
 use Rattle.detection.specs.Rounds.{count_taken, cut, tests_of_all}
 use Rattle.table.specs.Properties.{line_at_start, at_start, live_count, no_live_suspicion, none_suspected}
-use Rattle.detection.specs.Claim.{rounds_of, count_of, counted_from, DetectionPremises, DetectionConclusion, DetectionAt, Detection, DetectionAfter, square_rounds, DetectionInSquare, triangle_rounds, DetectionInTriangle, worst_latency, ring_latency, worst_rounds}
+use Rattle.detection.specs.Claim.{rounds_of, count_of, counted_from, DetectionPremises, DetectionConclusion}
+use Rattle.detection.specs.Claim.{DetectionAt, Detection, DetectionAfter, square_rounds, DetectionInSquare}
+use Rattle.detection.specs.Claim.{triangle_rounds, DetectionInTriangle, worst_latency, ring_latency, worst_rounds}
+use Rattle.detection.specs.InList.{DetectionInList}
 use Rattle.lists.proofs.BoolLaws.{by_bool}
 use Rattle.lists.proofs.SumLaws.{sum-single, sum-zero}
 use Rattle.table.specs.Wiring.{wiring_cube, wiring_ring, is_ring, wiring_check}
@@ -89,11 +92,13 @@ first_round w n t ok start clean = round-start w n (live n t) t (plain-at w n t 
 -- the rounds of a list of runs, from a table that refusals let through, on any wiring
 pub rounds-from : (w n : ℕ) (s : State) (calls : List Call) → DetectionPremises w n s calls → Accepted w n s.table
     → (K : RoundKnowledge w n (live n s.table))
-    → Course w n (live n s.table) K.Gives s.table (rounds_of s calls) (after_runs s calls).table × Tallied [] s (rounds_of s calls) (after_runs s calls)
+    → Course w n (live n s.table) K.Gives s.table (rounds_of s calls) (after_runs s calls).table
+    × Tallied [] s (rounds_of s calls) (after_runs s calls)
 rounds-from w n s calls given ok K =
     let first = first_round w n s.table ok given.start (trusts w n s.table ok given.accurate) in
-    course w n (live n s.table) K given.size (company-of n s.table given.two_live) (on-wiring (chain-all n s calls given.long) given.one_wiring) given.no_crash given.no_late
-    s.table [] first (K.starts s.table first)
+    let company = company-of n s.table given.two_live in
+    let chain = on-wiring (chain-all n s calls given.long) given.one_wiring in
+    course w n (live n s.table) K given.size company chain given.no_crash given.no_late s.table [] first (K.starts s.table first)
 
 -- the claim, on a wiring on which `enough` rounds are enough, and after so many the closed ones have the count of tests
 module _ (w n : ℕ) (s : State) (calls : List Call) (given : DetectionPremises w n s calls) (K : RoundKnowledge w n (live n s.table)) (enough : ℕ)
@@ -226,5 +231,13 @@ after-one-more s [] c = refl
 after-one-more s (b ∷ calls) c = after-one-more (after_run s b) calls c
 
 -- a claim about lists, of the last run of a list
-pub last-run : (rounds : ℕ → ℕ → ℕ) → Detection rounds → (c : Call) (before : State) → DetectionAfter rounds c before (after_run before c)
+last-run : (rounds : ℕ → ℕ → ℕ) → Detection rounds → (c : Call) (before : State) → DetectionAfter rounds c before (after_run before c)
 last-run rounds claim c before w n s calls e given = rw (after-one-more s calls c, e) at (claim w n s (calls ++ (c ∷ [])) given)
+
+-- a run promises the claim, wherever it stands in a list
+pub run-detects : (c : Call) (s : State) → DetectionInList c s (after_run s c)
+run-detects c s = record {
+  in_square = last-run square_rounds detection-in-square c s;
+  in_triangle = last-run triangle_rounds detection-in-triangle c s;
+  in_worst_case = last-run worst_rounds detection-in-worst-case c s;
+}

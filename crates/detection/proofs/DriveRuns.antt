@@ -17,7 +17,8 @@ use Rattle.detection.specs.Runs.{turn_run, after_runs, taken_all}
 use Rattle.detection.proofs.OneTurn.{after-append, taken-append, one_left, one-taken}
 use Rattle.detection.proofs.TakenLaws.{taken_at}
 use Rattle.granter.specs.Grant.{last_refusal, grant_refusal}
-use Rattle.granter.specs.Drive.{Stand, stand_at, granted_at, grant_turn, after_grants, ended_after, full_after, stops, grants_made, outcome_after, drive}
+use Rattle.granter.specs.Drive.{Stand, stand_at, granted_at, grant_turn, after_grants, ended_after}
+use Rattle.granter.specs.Drive.{full_after, stops, grants_made, outcome_after, drive}
 use Rattle.granter.proofs.GrantLaws.{Grantable, grantable, grant-zero, station-fits}
 use Rattle.granter.proofs.DriveLaws.{Driving, not_stopped, driving-start, still, chosen, next-taken, next-driving}
 use Rattle.detection.specs.Driven.{runs_of, DriveIsTurns}
@@ -35,7 +36,8 @@ driving-at w n s last g (suc k) going =
 -- the runs of k grants leave what the grants leave, and each takes its entry
 runs-left : (w n : ℕ) (s : State) (last : ℕ) → Grantable w n s.table last → (k : ℕ)
     → ((j : ℕ) → j < k → stops w n (stand_at s last) j ≡ false)
-    → (after_runs s (runs_of w n (stand_at s last) k) ≡ (after_grants w n (stand_at s last) k).state) × (length (taken_all s (runs_of w n (stand_at s last) k)) ≡ k)
+    → (after_runs s (runs_of w n (stand_at s last) k) ≡ (after_grants w n (stand_at s last) k).state)
+    × (length (taken_all s (runs_of w n (stand_at s last) k)) ≡ k)
 unfolding runs_of after_runs taken_all after_grants grant_turn
 runs-left w n s last g zero going = (refl, refl)
 runs-left w n s last g (suc k) going = step (runs-left w n s last g k (λ j l. going j (omega arith)))

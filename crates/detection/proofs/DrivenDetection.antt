@@ -29,7 +29,10 @@ use Rattle.granter.specs.Grant.{grant_refusal}
 use Rattle.granter.specs.Drive.{Stand, stand_at, granted_at, grant_turn, after_grants, ended, ended_after, stops, grants_made, outcome_after, drive}
 use Rattle.granter.proofs.GrantLaws.{Grantable, grantable}
 use Rattle.granter.proofs.DriveLaws.{Driving, not-ended, unended}
-use Rattle.detection.specs.Driven.{runs_of, runs_of_drive, RunOrDrive, a_run, a_drive, after_one, runs_of_one, after_mixed, runs_of_mixed, MixedDetection, after_drives, runs_of_drives, ending, DrivenDetectionConclusion, DrivenDetection, DrivenDetectionInSquare, DrivenDetectionAfter}
+use Rattle.detection.specs.Driven.{runs_of, runs_of_drive, RunOrDrive, a_run, a_drive, after_one, runs_of_one, after_mixed}
+use Rattle.detection.specs.Driven.{runs_of_mixed, MixedDetection, after_drives, runs_of_drives, ending}
+use Rattle.detection.specs.Driven.{DrivenDetectionConclusion, DrivenDetection, DrivenDetectionAfter}
+use Rattle.detection.specs.InList.{DrivenDetectionInList}
 use Rattle.granter.proofs.Stops.{drive-stops}
 use Rattle.detection.proofs.DriveRuns.{driving-at, drive-is-turns}
 
@@ -47,19 +50,9 @@ mixed-left s (x ∷ xs) =
     rw (after-append s (runs_of_one s x) (runs_of_mixed (after_one s x) xs), one-mixed-left s x) (mixed-left (after_one s x) xs)
 
 -- a claim about lists of runs, of lists that mix runs and drives
-mixed-detection : (rounds : ℕ → ℕ → ℕ) → Detection rounds → MixedDetection rounds
+pub mixed-detection : (rounds : ℕ → ℕ → ℕ) → Detection rounds → MixedDetection rounds
 mixed-detection rounds claim w n s xs given =
     subst (DetectionConclusion (rounds w n) w n s (runs_of_mixed s xs)) (mixed-left s xs) (claim w n s (runs_of_mixed s xs) given)
-
--- detection of such lists within each of the three bounds, ends in themselves
-pub mixed-in-square : MixedDetection square_rounds
-mixed-in-square = mixed-detection square_rounds detection-in-square
-
-pub mixed-in-triangle : MixedDetection triangle_rounds
-mixed-in-triangle = mixed-detection triangle_rounds detection-in-triangle
-
-pub mixed-in-worst-case : MixedDetection worst_rounds
-mixed-in-worst-case = mixed-detection worst_rounds detection-in-worst-case
 
 -- what turns pass, all entries pass that drives take
 module _ (w : ℕ) (q : Taken → Bool) (turns : (n : ℕ) (s : State) (i : ℕ) → q (taken_at w n s (entry_of kind_turn i)) ≡ true) where
@@ -79,7 +72,8 @@ module _ (w : ℕ) (q : Taken → Bool) (turns : (n : ℕ) (s : State) (i : ℕ)
       (rw (drive-is-turns w n s last).left (drives-pass n (drive w n s last).state lasts))
 
 -- drives and one more
-after-one-more : (w n : ℕ) (s : State) (lasts : List ℕ) (last : ℕ) → after_drives w n s (lasts ++ (last ∷ [])) ≡ (drive w n (after_drives w n s lasts) last).state
+after-one-more : (w n : ℕ) (s : State) (lasts : List ℕ) (last : ℕ)
+    → after_drives w n s (lasts ++ (last ∷ [])) ≡ (drive w n (after_drives w n s lasts) last).state
 unfolding after_mixed
 after-one-more w n s [] last = refl
 after-one-more w n s (first ∷ lasts) last = after-one-more w n (drive w n s first).state lasts last
@@ -201,23 +195,20 @@ module _ (rounds : ℕ → ℕ → ℕ) (claim : Detection rounds) (w n : ℕ) (
       let count : length (rounds_of s (runs_of_drives w n s lasts)).closed ≡ ending w n s lasts = omega (arith, grows [] lasts, c.rounds_tally) in
       record { detection = c; rounds = count; exact_rows = λ far. c.exact_rows (rw count far) }
 
--- a claim about lists of runs, of driven plants
-driven-detection : (rounds : ℕ → ℕ → ℕ) → Detection rounds → DrivenDetection rounds
+-- a claim about lists of runs, of driven plants. That still fewer rounds do not suffice is shown of runs only (crate witness)
+pub driven-detection : (rounds : ℕ → ℕ → ℕ) → Detection rounds → DrivenDetection rounds
 driven-detection rounds claim w n s lasts given = driven rounds claim w n s given lasts
 
--- detection of driven plants within d·d rounds on the cube and n − 1 on the ring, an end in itself
-pub driven-in-square : DrivenDetectionInSquare
-driven-in-square = driven-detection square_rounds detection-in-square
-
--- within 1 + d(d − 1)/2 rounds on the cube and n − 1 on the ring, an end in itself
-pub driven-in-triangle : DrivenDetection triangle_rounds
-driven-in-triangle = driven-detection triangle_rounds detection-in-triangle
-
--- and within fewer rounds, an end in itself. That still fewer do not suffice is shown of runs only (crate witness)
-pub driven-in-worst-case : DrivenDetection worst_rounds
-driven-in-worst-case = driven-detection worst_rounds detection-in-worst-case
-
--- of the last drive of a list
-pub last-drive : (rounds : ℕ → ℕ → ℕ) → DrivenDetection rounds → (w n last : ℕ) (before : State)
+-- and so of the last drive of a list
+last-drive : (rounds : ℕ → ℕ → ℕ) → Detection rounds → (w n : ℕ) (before : State) (last : ℕ)
     → DrivenDetectionAfter rounds w n last before (drive w n before last).state
-last-drive rounds claim w n last before s lasts e given = rw (after-one-more w n s lasts last, e) at (claim w n s (lasts ++ (last ∷ [])) given)
+last-drive rounds claim w n before last s lasts e given =
+    rw (after-one-more w n s lasts last, e) at (driven-detection rounds claim w n s (lasts ++ (last ∷ [])) given)
+
+-- a drive promises the claim, wherever it stands behind other drives
+pub drive-detects : (w n : ℕ) (s : State) (last : ℕ) → DrivenDetectionInList w n last s (drive w n s last).state
+drive-detects w n s last = record {
+  in_square = last-drive square_rounds detection-in-square w n s last;
+  in_triangle = last-drive triangle_rounds detection-in-triangle w n s last;
+  in_worst_case = last-drive worst_rounds detection-in-worst-case w n s last;
+}

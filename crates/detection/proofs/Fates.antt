@@ -10,13 +10,15 @@ use native.Mathlib.Omega.{arith}
 use borrow.Author.Tests.{eqb-true, eqb-false}
 use lib.Dec.{eqb}
 use lib.ListN.{length}
-use Rattle.table.specs.Table.{head, table_length, cell, status_column, next_column, finished_column, told_by_column, rounds_ago_column, status, status_told, status_alone, status_crashed, told_by, rounds_ago, live}
+use Rattle.table.specs.Table.{head, table_length, cell, status_column, next_column, finished_column, told_by_column}
+use Rattle.table.specs.Table.{rounds_ago_column, status, status_told, status_alone, status_crashed, told_by, rounds_ago, live}
 use Rattle.table.specs.Rules.{round_over}
 use Rattle.lists.proofs.BoolLaws.{by_bool, choice}
 use Rattle.lists.proofs.SearchLaws.{both}
 use Rattle.table.proofs.Accepting.{Accepted, accepted}
 use Rattle.table.proofs.CellLaws.{TurnCounts, cell_same, cell_other}
-use Rattle.plant.specs.Turn.{set_status, leave_told, makes_test, replies, is_told, exchange_rows, suspect, reply_outcome, test_outcome, after_outcome, after_test, is_alone, after_alone, testing, turn, turn_tested, turn_outcome, crash, finish_pass}
+use Rattle.plant.specs.Turn.{set_status, leave_told, makes_test, replies, is_told, exchange_rows, suspect, reply_outcome, test_outcome}
+use Rattle.plant.specs.Turn.{after_outcome, after_test, is_alone, after_alone, testing, turn, turn_tested, turn_outcome, crash, finish_pass}
 use Rattle.station.specs.Outcome.{outcome_exchanged, outcome_told, outcome_tested_told}
 use Rattle.plant.specs.Round.{after_round}
 use Rattle.plant.specs.Entry.{Entry, State, is_crash, entry_refusal, acted, after, tested_of, outcome_of}
@@ -189,7 +191,8 @@ module _ (n : ℕ) (u : List ℕ) (kind i j : ℕ) (long : length u ≡ table_le
 outcome-counted : (n : ℕ) (t u : List ℕ) (kind i j : ℕ) → Counted n t u → i < n → j < n → test_outcome n t kind i j ≡ test_outcome n u kind i j
 unfolding test_outcome replies reply_outcome is_told
 outcome-counted n t u kind i j same hi hj =
-    rw (same j status_column (omega arith) (omega arith), same j (head + i) (omega arith) (omega arith), same i (head + j) (omega arith) (omega arith))
+    let told = same j (head + i) (omega arith) (omega arith) in
+    rw (same j status_column (omega arith) (omega arith), told, same i (head + j) (omega arith) (omega arith))
 
 -- a taken entry
 module _ (w n : ℕ) (s : State) (e : Entry) (ok : Accepted w n s.table) (z : entry_refusal n s e ≡ 0) where
@@ -228,14 +231,18 @@ module _ (w n : ℕ) (s : State) (e : Entry) (ok : Accepted w n s.table) (z : en
       by_bool (is_crash e)
       (λ c. rw c (by_cases (ℕ_discrete i k) (λ q. rw (← q) crashed) (λ d. stays (same-exit n t (set_status n t i status_crashed) k (other d)))))
       (λ c.
-      by_bool (makes_test w n t i) (λ b. rw (c, b) (testing-fate c b k h))
-      (λ b. rw (c, b) (stays (same-exit n t (finish_pass w n t i) k (λ c hc out. finish_pass-other n t i w k c (omega arith) (λ _. not-counted c out))))))
+      by_bool (makes_test w n t i) (λ b. rw (c, b) (testing-fate c b k h)) (λ b. rw (c, b) finished))
     where
       other : i ≢ k → (c : ℕ) → c < head → ¬ (TurnCounts c) → cell n (set_status n t i status_crashed) k c ≡ cell n t k c
       other d c hc _ = cell_other n t i status_column status_crashed k c (omega arith) (omega arith) (λ q. absurd (d q))
 
       not-counted : (c : ℕ) → ¬ (TurnCounts c) → (c ≢ next_column) × (c ≢ finished_column)
       not-counted c out = (λ q. out (omega arith), λ q. out (omega arith))
+
+      finished : Fate n t (finish_pass w n t i) k
+      finished =
+          stays (same-exit n t (finish_pass w n t i) k
+          (λ c hc out. finish_pass-other n t i w k c (omega arith) (λ _. not-counted c out)))
 
       crashed : Fate n t (set_status n t i status_crashed) i
       crashed =
@@ -273,9 +280,9 @@ module _ (w n : ℕ) (s : State) (e : Entry) (ok : Accepted w n s.table) (z : en
   closing_same : (k : ℕ) → SameExit n (acted w n t e) (after w n s e).table k
   unfolding after after_round
   closing_same k =
+      let other = reset-other n (acted w n t e) k in
       choice (λ (v : List ℕ). SameExit n (acted w n t e) v k) (round_over n (acted w n t e))
-      (reset-other n (acted w n t e) k status_column (omega arith) (λ p. omega arith), reset-other n (acted w n t e) k told_by_column (omega arith) (λ p. omega arith))
-      (refl, refl)
+      (other status_column (omega arith) (λ p. omega arith), other told_by_column (omega arith) (λ p. omega arith)) (refl, refl)
 
   pub after-fate : (k : ℕ) → k < n → Fate n t (after w n s e).table k
   after-fate k h = fate-later n t (acted w n t e) (after w n s e).table k (closing_same k) (acted-fate k h)
@@ -291,7 +298,8 @@ module _ (w n : ℕ) (s : State) (e : Entry) (ok : Accepted w n s.table) (z : en
 
   -- where the test of j makes station a leave because told by x
   module _ (no-crash : is_crash e ≡ false) (makes : makes_test w n t i ≡ true) where
-    after-left : (a x : ℕ) → a < n → (i ≡ a → live n (v no-crash makes) a ≡ false) → LeftTold n u (v no-crash makes) a x → LeftTold n t (after w n s e).table a x
+    after-left : (a x : ℕ) → a < n → (i ≡ a → live n (v no-crash makes) a ≡ false) → LeftTold n u (v no-crash makes) a x
+        → LeftTold n t (after w n s e).table a x
     unfolding acted turn testing after_test
     after-left a x h out l = left-later n t (acted w n t e) (after w n s e).table a x (closing_same a) acted-left
       where
@@ -304,13 +312,15 @@ module _ (w n : ℕ) (s : State) (e : Entry) (ok : Accepted w n s.table) (z : en
     tester-left : o ≡ outcome_told → LeftTold n t (after w n s e).table i j
     tester-left told =
         let y = pair no-crash makes in
-        let l = told-tester n u e.kind i j y.counted_lines.0 y.below y.tested_below y.apart (alive no-crash makes) o (same-outcome no-crash makes) told in
+        let same = same-outcome no-crash makes in
+        let l = told-tester n u e.kind i j y.counted_lines.0 y.below y.tested_below y.apart (alive no-crash makes) o same told in
         after-left i j y.below (λ _. rw l.left) l
 
     tested-left : o ≡ outcome_tested_told → LeftTold n t (after w n s e).table j i
     tested-left told =
         let y = pair no-crash makes in
-        let l = told-tested n u e.kind i j y.counted_lines.0 y.below y.tested_below y.apart (alive no-crash makes) o (same-outcome no-crash makes) told in
+        let same = same-outcome no-crash makes in
+        let l = told-tested n u e.kind i j y.counted_lines.0 y.below y.tested_below y.apart (alive no-crash makes) o same told in
         after-left j i y.tested_below (λ same. absurd (y.apart same)) l
 
   others-told : (k : ℕ) → (outcome_of w n t e ≡ outcome_told → k ≢ i) → (outcome_of w n t e ≡ outcome_tested_told → k ≢ tested_of w n t e)

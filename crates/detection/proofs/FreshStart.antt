@@ -3,24 +3,24 @@
 use mathlib.Core.Path.{◌≡◌, refl, ap, ◌∙◌}
 use mathlib.Core.Bool.{true, cond}
 use mathlib.Core.List.{List}
-use Prim.Native.Nat.{ℕ, ◌+◌, ◌%◌, ◌<◌}
-use native.Mathlib.Nat.{mod-eq_of_lt, mul-add-mod_self_right, mul-one}
+use Prim.Native.Nat.{ℕ, ◌+◌, ◌<◌}
+use native.Mathlib.Nat.{mul-one}
 use native.Mathlib.Omega.{arith}
 use borrow.Author.Tests.{ne_eqb, eq-eqb}
 use lib.Dec.{eqb}
-use lib.ListN.{length}
 use Rattle.table.specs.Sizes.{is_size}
-use Rattle.table.specs.Table.{head, stride, table_length, line_start, cell, status_column, next_column, finished_column, tests_column, told_by_column, told_by_none, rounds_ago_column, suspects, live, status}
+use Rattle.table.specs.Table.{head, stride, cell, status_column, next_column, finished_column}
+use Rattle.table.specs.Table.{tests_column, told_by_column, told_by_none, rounds_ago_column, suspects, live, status}
 use Rattle.table.specs.Rules.{exit_rule, wired_line_rules, numbered_table_refusal}
 use Rattle.table.specs.Wiring.{wiring_check}
 use Rattle.std.specs.Prelude.{Ok}
-use Rattle.table.specs.Fresh.{fresh_byte, fresh_table}
-use Rattle.lists.proofs.SearchLaws.{every-all, list_of-length, list_of-at}
+use Rattle.table.specs.Fresh.{fresh_table}
+use Rattle.lists.proofs.SearchLaws.{every-all}
 use Rattle.lists.specs.Sums.{bit}
 use Rattle.lists.proofs.SumLaws.{sum_by, sum-const}
 use Rattle.table.proofs.SizeLaws.{size-bounds}
 use Rattle.table.proofs.FreshLaws.{fresh-length, fresh-byte, fresh-cell}
-use Rattle.table.proofs.CellLaws.{start-pass, line-inside, Line, line-holds}
+use Rattle.table.proofs.CellLaws.{start-pass, Line, line-holds}
 use Rattle.plant.proofs.RulesKept.{unfinished-open}
 use Rattle.plant.proofs.RunLaws.{accepted-number}
 use Rattle.table.specs.Properties.{line_at_start, at_start, live_count, none_suspected, no_live_suspicion}
@@ -34,22 +34,26 @@ fresh-at n i c h g = fresh-cell n i c h g ∙ fresh-byte n c g
 
 fresh-row : (n i k : ℕ) → i < n → k < n → suspects n (fresh_table n) i k ≡ 0
 fresh-row n i k g l =
-    fresh-at n i (head + k) g (omega arith) ∙ rw (ne_eqb (head + k) next_column (λ e. omega arith), ne_eqb (head + k) told_by_column (λ e. omega arith))
+    fresh-at n i (head + k) g (omega arith)
+    ∙ rw (ne_eqb (head + k) next_column (λ e. omega arith), ne_eqb (head + k) told_by_column (λ e. omega arith))
 
 fresh-live : (n i : ℕ) → i < n → live n (fresh_table n) i ≡ true
 fresh-live n i h = eq-eqb (status n (fresh_table n) i) 0 (fresh-at n i status_column h (omega arith))
 
 fresh-line : (w n i : ℕ) → i < n → Line w n (fresh_table n) i
 unfolding exit_rule
-fresh-line w n i g = record {
-  status_range = omega (arith, fresh-at n i status_column g (omega arith));
-  pass = rw (fresh-at n i next_column g (omega arith), fresh-at n i finished_column g (omega arith), fresh-at n i tests_column g (omega arith))
-      (start-pass w n i g);
-  exits =
-      rw (fresh-at n i status_column g (omega arith), fresh-at n i told_by_column g (omega arith), fresh-at n i rounds_ago_column g (omega arith));
-  own = fresh-row n i i g g;
-  range = λ k l. omega (arith, fresh-row n i k g l);
-}
+fresh-line w n i g =
+    let status = fresh-at n i status_column g (omega arith) in
+    let next = fresh-at n i next_column g (omega arith) in
+    let finish = fresh-at n i finished_column g (omega arith) in
+    let told_by = fresh-at n i told_by_column g (omega arith) in
+    record {
+      status_range = omega (arith, status);
+      pass = rw (next, finish, fresh-at n i tests_column g (omega arith)) (start-pass w n i g);
+      exits = rw (status, told_by, fresh-at n i rounds_ago_column g (omega arith));
+      own = fresh-row n i i g g;
+      range = λ k l. omega (arith, fresh-row n i k g l);
+    }
 
 module _ (n : ℕ) where
   abbrev t : List ℕ

@@ -61,21 +61,26 @@ module _ (n : ℕ) (L : ℕ → Bool) (t₀ t' : List ℕ) (cur : List Taken) (s
   abbrev x : Taken
   x = taken_at wiring_cube n s e
 
+  -- the distance of its test, where it makes one
+  abbrev tested-now : List ℕ
+  tested-now = cond (makes_test wiring_cube n t i) (next_test wiring_cube n t i ∷ []) []
+
   -- the turn's own station, in a round that started exact
-  own-more : Exact n L t₀ → led_below n L i (next_distance n t' i) ≡ led_below n L i (next_distance n t i) ++ cond (makes_test wiring_cube n t i) (next_test wiring_cube n t i ∷ []) []
+  own-more : Exact n L t₀ → led_below n L i (next_distance n t' i) ≡ led_below n L i (next_distance n t i) ++ tested-now
   own-more exact =
       let exact_now : Exact n L t = λ k j g c q f. inv.grown k j g c (exact k j g c q f) in
+      let leads : (y : ℕ) → due (row n t i) i y ≡ leads_at n L i y = λ y. exact-due n L t inv.plain exact_now i y turn.below turn.is_live in
       let same : (m : ℕ) → select (due (row n t i) i) m ≡ led_below n L i m =
-      λ m. filter_same (due (row n t i) i) (leads_at n L i) (λ y. exact-due n L t inv.plain exact_now i y turn.below turn.is_live) (range_with_len 0 m) in
+      λ m. filter_same (due (row n t i) i) (leads_at n L i) leads (range_with_len 0 m) in
       sym (same (next_distance n t' i)) ∙ (passed-list n t t' i turn.outcome turn.heads (inv.plain.lines.1 i turn.below).pass.next_high
-      ∙ ap (λ (l : List ℕ). l ++ cond (makes_test wiring_cube n t i) (next_test wiring_cube n t i ∷ []) []) (same (next_distance n t i)))
+      ∙ ap (λ (l : List ℕ). l ++ tested-now) (same (next_distance n t i)))
 
   own-listed : Exact n L t₀ → tested_in i (cur ++ (x ∷ [])) ≡ map (station_at i) (led_below n L i (next_distance n t' i))
   unfolding tested_of turn_tested
   own-listed exact =
       rw (
         own-more exact,
-        map-append (station_at i) (led_below n L i (next_distance n t i)) (cond (makes_test wiring_cube n t i) (next_test wiring_cube n t i ∷ []) []),
+        map-append (station_at i) (led_below n L i (next_distance n t i)) tested-now,
         ← had exact i turn.below,
       ) (tested-snoc i cur x ∙ rw (eq-eqb i i refl, turn.no_crash)
       (by_bool (makes_test wiring_cube n t i) (λ q. rw (q, cube-station wiring_cube n i (next_test wiring_cube n t i) refl)) (λ q. rw q)))

@@ -27,7 +27,8 @@ pub taken-append : (s : State) (a b : List Call) → taken_all s (a ++ b) ≡ ta
 unfolding taken_all after_runs
 taken-append s [] b = refl
 taken-append s (c ∷ a) b =
-    rw (taken-append (after_run s c) a b) (sym (append_assoc (taken_in s c) (taken_all (after_run s c) a) (taken_all (after_runs (after_run s c) a) b)))
+    let left = after_run s c in
+    rw (taken-append left a b) (sym (append_assoc (taken_in s c) (taken_all left a) (taken_all (after_runs left a) b)))
 
 -- a run of one turn that is taken
 module _ (w n : ℕ) (s : State) (i : ℕ) (ok : numbered_table_refusal w n s.table ≡ 0) (z : entry_refusal n s (entry_of kind_turn i) ≡ 0) where
@@ -47,8 +48,8 @@ all_append q [] ys a b = b
 all_append q (x ∷ xs) ys a b = let p = both (q x) (all_taken q xs) a in rw (p.0, all_append q xs ys p.1 b)
 
 -- two lists of runs
-pub runs_append : (q : Taken → Bool) (s : State) (a b : List Call) → all_taken q (taken_all s a) ≡ true → all_taken q (taken_all (after_runs s a) b) ≡ true
-    → all_taken q (taken_all s (a ++ b)) ≡ true
+pub runs_append : (q : Taken → Bool) (s : State) (a b : List Call) → all_taken q (taken_all s a) ≡ true
+    → all_taken q (taken_all (after_runs s a) b) ≡ true → all_taken q (taken_all s (a ++ b)) ≡ true
 runs_append q s a b x y = rw (taken-append s a b) (all_append q (taken_all s a) (taken_all (after_runs s a) b) x y)
 
 -- what turns pass, a run of one turn passes

@@ -17,11 +17,13 @@ use Rattle.lists.proofs.BoolLaws.{by_bool, choice, every-same}
 use Rattle.lists.proofs.SearchLaws.{both, every-not}
 use Rattle.table.proofs.Accepting.{accepted}
 use Rattle.table.proofs.CellLaws.{cell_same, cell_other, ClosingChanges}
-use Rattle.plant.specs.Turn.{kind_turn, leave_told, makes_test, replies, is_told, exchange_rows, reply_outcome, test_outcome, after_outcome, self_or_suspected, is_alone, after_alone, after_test, testing, turn, turn_tested, turn_outcome}
+use Rattle.plant.specs.Turn.{kind_turn, leave_told, makes_test, replies, is_told, exchange_rows, reply_outcome, test_outcome, after_outcome}
+use Rattle.plant.specs.Turn.{self_or_suspected, is_alone, after_alone, after_test, testing, turn, turn_tested, turn_outcome}
 use Rattle.station.specs.Outcome.{outcome_exchanged, outcome_told, outcome_tested_told}
 use Rattle.plant.specs.Round.{after_round}
 use Rattle.plant.specs.Entry.{Entry, State, is_crash, acted, after, tested_of, outcome_of}
-use Rattle.plant.proofs.StepCells.{leave_told-length, leave_told-other, leave_told-status, exchange-other, exchange-tester, exchange-tested, exchange-tester-own, exchange-tested-own}
+use Rattle.plant.proofs.StepCells.{leave_told-length, leave_told-other, leave_told-status, exchange-other}
+use Rattle.plant.proofs.StepCells.{exchange-tester, exchange-tested, exchange-tester-own, exchange-tested-own}
 use Rattle.plant.proofs.RoundLaws.{reset-other}
 use Rattle.detection.specs.Exits.{RepliedTest, SameRows, RowsJoined, NeitherSuspects, ReplyEnds}
 use Rattle.detection.proofs.TestingPair.{Pair, parts_of, testing-pair}
@@ -34,14 +36,15 @@ module _ (n i : ℕ) (v : List ℕ) where
   later-round : (k c : ℕ) → c < stride n → ¬ (ClosingChanges c) → cell n later k c ≡ cell n (after_alone n v i) k c
   unfolding after_round
   later-round k c h out =
-      choice (λ (t : List ℕ). cell n t k c ≡ cell n (after_alone n v i) k c) (round_over n (after_alone n v i)) (reset-other n (after_alone n v i) k c h out) refl
+      let u = after_alone n v i in choice (λ (t : List ℕ). cell n t k c ≡ cell n u k c) (round_over n u) (reset-other n u k c h out) refl
 
   later-other : (k c : ℕ) → c < stride n → ¬ (ClosingChanges c) → (i ≡ k → c ≢ status_column)
       → cell n later k c ≡ cell n v k c
   unfolding after_alone
   later-other k c h out own =
       later-round k c h out
-      ∙ choice (λ (t : List ℕ). cell n t k c ≡ cell n v k c) (is_alone n v i) (cell_other n v i status_column status_alone k c (omega arith) h (λ q r. own q (sym r))) refl
+      ∙ choice (λ (t : List ℕ). cell n t k c ≡ cell n v k c) (is_alone n v i)
+      (cell_other n v i status_column status_alone k c (omega arith) h (λ q r. own q (sym r))) refl
 
   later-alone : length v ≡ table_length n → i < n → status n v i ≡ 0 → status n later i ≡ cond (is_alone n v i) status_alone 0
   unfolding after_alone
@@ -70,6 +73,9 @@ module _ (w n : ℕ) (s : State) (e : Entry) (r : RepliedTest w n s e) where
 
   row-counted : (k x : ℕ) → x < n → suspects n u k x ≡ suspects n t k x
   row-counted k x h = counted k (head + x) (omega arith) (omega arith)
+
+  status-counted : (k : ℕ) → status n u k ≡ status n t k
+  status-counted k = counted k status_column (omega arith) (omega arith)
 
   tested-is : tested_of w n t e ≡ j
   unfolding tested_of turn_tested
@@ -114,7 +120,10 @@ module _ (w n : ℕ) (s : State) (e : Entry) (r : RepliedTest w n s e) where
 
   -- outcome 2
   tester-leaves : suspects n t j i ≡ 1
-      → (outcome_of w n t e ≡ outcome_told) × (status n (after w n s e).table i ≡ status_told) × (live n (after w n s e).table j ≡ true) × SameRows n t (after w n s e).table
+      → (outcome_of w n t e ≡ outcome_told)
+      × (status n (after w n s e).table i ≡ status_told)
+      × (live n (after w n s e).table j ≡ true)
+      × SameRows n t (after w n s e).table
   unfolding after_outcome is_alone
   tester-leaves f =
       let v : List ℕ = leave_told n u i j in
@@ -124,7 +133,7 @@ module _ (w n : ℕ) (s : State) (e : Entry) (r : RepliedTest w n s e) where
       let gone : is_alone n v i ≡ false = rw mine in
       let its : status n (later n i v) j ≡ 0 =
       later-other n i v j status_column (omega arith) (λ p. omega arith) (λ p. absurd (apart p))
-      ∙ (leave_told-other n u i j j status_column (omega arith) (λ p. absurd (apart p)) ∙ (counted j status_column (omega arith) (omega arith) ∙ j-live)) in
+      ∙ (leave_told-other n u i j j status_column (omega arith) (λ p. absurd (apart p)) ∙ (status-counted j ∙ j-live)) in
       (q, rw a (later-stays n i v gone ∙ mine), rw (a, its), rw a (left-rows i j))
 
   -- outcome 5
@@ -141,7 +150,7 @@ module _ (w n : ℕ) (s : State) (e : Entry) (r : RepliedTest w n s e) where
       let its : status n (later n i v) j ≡ status_told =
       later-other n i v j status_column (omega arith) (λ p. omega arith) (λ p. absurd (apart p)) ∙ leave_told-status n u j lines.0 hj i in
       let mine : status n v i ≡ 0 =
-      leave_told-other n u j i i status_column (omega arith) (λ p. absurd (apart (sym p))) ∙ (counted i status_column (omega arith) (omega arith) ∙ i-live) in
+      leave_told-other n u j i i status_column (omega arith) (λ p. absurd (apart (sym p))) ∙ (status-counted i ∙ i-live) in
       let others : every (self_or_suspected n v i) n ≡ every (self_or_suspected n t i) n =
       every-same (self_or_suspected n v i) (self_or_suspected n t i) n
       (λ k h. rw (leave_told-other n u j i i (head + k) (omega arith) (λ _. omega arith) ∙ row-counted i k h)) in
@@ -163,7 +172,10 @@ module _ (w n : ℕ) (s : State) (e : Entry) (r : RepliedTest w n s e) where
 
   -- outcome 1: i does not suspect j afterwards, and so is not alone
   both-stay : NeitherSuspects n t i j
-      → (outcome_of w n t e ≡ outcome_exchanged) × (live n (after w n s e).table i ≡ true) × (live n (after w n s e).table j ≡ true) × RowsJoined n t (after w n s e).table i j
+      → (outcome_of w n t e ≡ outcome_exchanged)
+      × (live n (after w n s e).table i ≡ true)
+      × (live n (after w n s e).table j ≡ true)
+      × RowsJoined n t (after w n s e).table i j
   unfolding after_outcome is_alone self_or_suspected
   both-stay f =
       let v : List ℕ = exchange_rows n u i j in
@@ -173,9 +185,10 @@ module _ (w n : ℕ) (s : State) (e : Entry) (r : RepliedTest w n s e) where
       let fails : self_or_suspected n v i j ≡ false = rw (ne_eqb j i (λ p. apart (sym p)), mine) in
       let company : is_alone n v i ≡ false = rw (every-not (self_or_suspected n v i) n j hj fails, and-false) in
       let same : (k : ℕ) → status n v k ≡ status n t k =
-      λ k. exchange-other n u i lines.0 hi j hj apart k status_column (omega arith) (λ _. omega arith) (λ _. omega arith) ∙ counted k status_column (omega arith) (omega arith) in
+      λ k. exchange-other n u i lines.0 hi j hj apart k status_column (omega arith) (λ _. omega arith) (λ _. omega arith) ∙ status-counted k in
       let i-stays : status n (later n i v) i ≡ 0 = later-stays n i v company ∙ (same i ∙ i-live) in
-      let j-stays : status n (later n i v) j ≡ 0 = later-other n i v j status_column (omega arith) (λ p. omega arith) (λ p. absurd (apart p)) ∙ (same j ∙ j-live) in
+      let j-stays : status n (later n i v) j ≡ 0 =
+      later-other n i v j status_column (omega arith) (λ p. omega arith) (λ p. absurd (apart p)) ∙ (same j ∙ j-live) in
       let kept : (k x : ℕ) → x < n → suspects n (later n i v) k x ≡ suspects n v k x =
       λ k x h. later-other n i v k (head + x) (omega arith) (λ p. omega arith) (λ _. omega arith) in (
         q,
@@ -195,7 +208,8 @@ module _ (w n : ℕ) (s : State) (e : Entry) (r : RepliedTest w n s e) where
       by_cases (ℕ_discrete (suspects n t j i) 1) (λ f. absurd (omega (arith, eqb-true (status n (after w n s e).table i) 0 a, (tester-leaves f).1)))
       (λ f.
       let f' : suspects n t j i ≡ 0 = omega (arith, (lines₀.1 j hj).range i hi) in
-      by_cases (ℕ_discrete (suspects n t i j) 1) (λ x. absurd (omega (arith, eqb-true (status n (after w n s e).table j) 0 b, (tested-leaves f' x).1)))
+      by_cases (ℕ_discrete (suspects n t i j) 1)
+      (λ x. absurd (omega (arith, eqb-true (status n (after w n s e).table j) 0 b, (tested-leaves f' x).1)))
       (λ x.
       let x' : suspects n t i j ≡ 0 = omega (arith, (lines₀.1 i hi).range j hj) in
       let z = (both-stay (x', f')).3 in
@@ -204,4 +218,9 @@ module _ (w n : ℕ) (s : State) (e : Entry) (r : RepliedTest w n s e) where
 -- the claim, an end in itself
 pub reply-ends : ReplyEnds
 reply-ends w n s e r =
-    rw (tested-is w n s e r) (record { tester = tester-leaves w n s e r; tested = tested-leaves w n s e r; neither = both-stay w n s e r; parted = parted w n s e r })
+    rw (tested-is w n s e r) (record {
+      tester = tester-leaves w n s e r;
+      tested = tested-leaves w n s e r;
+      neither = both-stay w n s e r;
+      parted = parted w n s e r;
+    })

@@ -60,13 +60,15 @@ module _ (n : ℕ) (live : ℕ → Bool) (z : ℕ) (hz : z < n) (lz : live z ≡
   -- and n places on the circle begins anew
   first-round : first n ≡ first 0 + n
   first-round =
-      least-is q n n (first 0 + n) (omega arith) (omega (arith, first-found 0 (omega arith))) (rw (add-mod_right (first 0) n) (first-live 0 (omega arith)))
+      least-is q n n (first 0 + n) (omega arith) (omega (arith, first-found 0 (omega arith)))
+      (rw (add-mod_right (first 0) n) (first-live 0 (omega arith)))
       (λ y a b.
       let back : y - n + n ≡ y = omega arith in
       let none : q (y - n) ≡ false = least-before q n 0 (y - n) (omega arith) (omega arith) in
       rw (sym back, add-mod_right (y - n) n) none)
 
-  module _ (tests : ℕ → ℕ) (gaps : (a b : ℕ) → a < n → NextLive n live a b → tests a ≡ b - a) (none : (a : ℕ) → a < n → live a ≡ false → tests a ≡ 0) where
+  module _ (tests : ℕ → ℕ) (gaps : (a b : ℕ) → a < n → NextLive n live a b → tests a ≡ b - a)
+      (none : (a : ℕ) → a < n → live a ≡ false → tests a ≡ 0) where
     summed : (k : ℕ) → k ≤ n → sum_below tests k + first 0 ≡ first k
     unfolding sum_below
     summed zero h = omega arith

@@ -66,7 +66,8 @@ all-known n live R closed i j h hj li dj =
       from = p.1.passes;
       to = s.1.passes;
       between = λ k a b.
-          by_cases (dec_lt k at) (p.1.none k a) (λ m. by_cases (dec_lt at k) (λ l. s.1.none k l b) (λ q. let same : k ≡ at = omega arith in rw same dead));
+          by_cases (dec_lt k at) (p.1.none k a)
+          (λ m. by_cases (dec_lt at k) (λ l. s.1.none k l b) (λ q. let same : k ≡ at = omega arith in rw same dead));
     } in
     let r : ℕ = n / 2 - 1 in
     let last : suc r ≡ n / 2 = omega (arith, x.1, x.2) in
@@ -75,5 +76,7 @@ all-known n live R closed i j h hj li dj =
     let known : R (suc r) i j =
     by_cases (dec_lt (x.0 + n) (s.0 + suc r))
     (λ l. rw (there, here) at (forward n live R (n / 2) closed p.0 at s.0 gap p.1.high s.1.low r (x.0 + n) (omega arith) lx' s.1.high (omega arith)))
-    (λ l. rw (x.3, here) at (backward n live R (n / 2) closed p.0 at s.0 gap p.1.high s.1.low r x.0 (omega arith) lx p.1.low (omega (arith, p.1.high, s.1.low)))) in
+    (λ l.
+    let back : p.0 ≤ x.0 + r = omega (arith, p.1.high, s.1.low) in
+    rw (x.3, here) at (backward n live R (n / 2) closed p.0 at s.0 gap p.1.high s.1.low r x.0 (omega arith) lx p.1.low back)) in
     subst (λ (k : ℕ). R k i j) last known

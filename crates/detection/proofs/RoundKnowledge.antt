@@ -97,8 +97,8 @@ pub record RoundKnowledge (w n : ℕ) (L : ℕ → Bool) : Type 1 where
   -- what is known within a round that started with t₀, after its entries `cur`, at the table t
   pub Knows : List ℕ → List Taken → List ℕ → Type 0
   pub starts : (t : List ℕ) → InRound w n L t [] t → Knows t [] t
-  pub turns : (t₀ t' : List ℕ) (cur : List Taken) (s : State) (e : Entry) → InRound w n L t₀ cur s.table → TurnTaken w n L s e t' → Knows t₀ cur s.table
-      → Knows t₀ (cur ++ (taken_at w n s e ∷ [])) t'
+  pub turns : (t₀ t' : List ℕ) (cur : List Taken) (s : State) (e : Entry) → InRound w n L t₀ cur s.table → TurnTaken w n L s e t'
+      → Knows t₀ cur s.table → Knows t₀ (cur ++ (taken_at w n s e ∷ [])) t'
   -- what a closed round gives that started with t₀, by its entries, with the table at the start of the next
   pub Gives : List ℕ → List Taken → List ℕ → Type 0
   pub closes : (t₀ t : List ℕ) (round : List Taken) → InRound w n L t₀ round t → Knows t₀ round t → round_over n t ≡ true

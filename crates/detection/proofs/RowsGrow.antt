@@ -12,7 +12,8 @@ use lib.ListN.{length}
 use Rattle.table.specs.Table.{head, table_length, status_column, suspects, status_alone, status_crashed}
 use Rattle.lists.proofs.BoolLaws.{by_bool, choice}
 use Rattle.table.proofs.CellLaws.{cell_other}
-use Rattle.plant.specs.Turn.{outcome_at, set_status, leave_told, next_test, makes_test, finish_pass, count_test, suspect, after_outcome, after_test, is_alone, after_alone, testing, turn, crash}
+use Rattle.plant.specs.Turn.{outcome_at, set_status, leave_told, next_test, makes_test, finish_pass, count_test}
+use Rattle.plant.specs.Turn.{suspect, after_outcome, after_test, is_alone, after_alone, testing, turn, crash}
 use Rattle.station.specs.Outcome.{outcome_exchanged, outcome_told, outcome_tested_told}
 use Rattle.plant.specs.Entry.{Entry, is_crash, acted}
 use Rattle.plant.proofs.NextTest.{test_below, next_test-low, test-station}

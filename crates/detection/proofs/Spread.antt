@@ -9,7 +9,8 @@ use native.Mathlib.Decide.{dec_lt, le_ind}
 use native.Mathlib.Omega.{arith}
 use lib.Bits.{bit_xor, xor_comm}
 use Rattle.lists.proofs.Xor.{Near, xor-cancel}
-use Rattle.detection.proofs.Near.{Member, Ahead, Parting, same, apart, near-dec, near-zero, member-sym, member-distance, member-first, members-near, parting}
+use Rattle.detection.proofs.Near.{Member, Ahead, Parting, same, apart, near-dec, near-zero}
+use Rattle.detection.proofs.Near.{member-sym, member-distance, member-first, members-near, parting}
 use Rattle.detection.proofs.Pass.{InPass, had, hear, first-tests, lift, Round}
 use Rattle.detection.proofs.Latency.{spread}
 use Rattle.detection.proofs.Leaders.{Dead, Leads, leader, dead-ahead, Aware, leader-tests}

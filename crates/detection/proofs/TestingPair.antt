@@ -19,7 +19,8 @@ use Rattle.plant.proofs.StepLines.{Lines, count_test-lines}
 use Rattle.plant.specs.Entry.{Entry, State, is_crash, entry_refusal}
 use Rattle.plant.proofs.RulesKept.{entry-facts}
 
--- the table before an entry, its station, the distance of that one's next test, the station there and the outcome, and the table with the test counted
+-- the table before an entry, its station, the distance of that one's next test, the station there and the outcome, and the table with the test
+-- counted
 pub record Parts : Type 0 where
   pub before : List ℕ
   pub tester : ℕ
@@ -62,13 +63,15 @@ testing-pair w n s e ok z no-crash makes =
     let m = next_test w n t i in
     let facts = entry-facts n s e z in
     let lines : Lines w n t = (ok.long, accepted-line w n t ok) in
+    let low = next_test-low w n t i in
+    let high = test_below w n t i makes in
+    let going = facts.unfinished (eqb-false e.kind 3 no-crash) in
     record {
       lines = lines;
       below = facts.below;
       tested_below = test-station w n t i makes ok.long facts.below;
-      apart = station-apart w n i m facts.below (omega (arith, next_test-low w n t i, (lines.1 i facts.below).pass.next_low)) (test_below w n t i makes);
+      apart = station-apart w n i m facts.below (omega (arith, low, (lines.1 i facts.below).pass.next_low)) high;
       is_live = facts.is_live;
-      counted_lines =
-          count_test-lines w n t i lines facts.below m (parts_of w n s e).outcome (facts.unfinished (eqb-false e.kind 3 no-crash)) (next_test-low w n t i) (test_below w n t i makes);
+      counted_lines = count_test-lines w n t i lines facts.below m (parts_of w n s e).outcome going low high;
       others = count-others w n s e;
     }

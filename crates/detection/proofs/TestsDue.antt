@@ -30,12 +30,14 @@ use Rattle.slots.proofs.MoreTests.{fewer-below}
 use Rattle.detection.proofs.RowsGrow.{Grows, acted-grows}
 
 -- whom the row of line k does not suspect
-pub row-unsuspected : (n : ℕ) (t : List ℕ) (k x : ℕ) → length t ≡ table_length n → k < n → x < n → unsuspected (row n t k) x ≡ eqb (suspects n t k x) 0
+pub row-unsuspected : (n : ℕ) (t : List ℕ) (k x : ℕ) → length t ≡ table_length n → k < n → x < n
+    → unsuspected (row n t k) x ≡ eqb (suspects n t k x) 0
 row-unsuspected n t k x long hk hx =
     unsuspected-at (row n t k) x (omega (arith, row-length n t k long hk)) ∙ ap (λ (v : ℕ). eqb v 0) (row_at n t k x hx)
 
 -- a row that has grown
-wider-rows : (n : ℕ) (t t' : List ℕ) → Lines wiring_cube n t → Lines wiring_cube n t' → Grows n t t' → (k : ℕ) → k < n → Wider (row n t k) (row n t' k) k
+wider-rows : (n : ℕ) (t t' : List ℕ) → Lines wiring_cube n t → Lines wiring_cube n t' → Grows n t t'
+    → (k : ℕ) → k < n → Wider (row n t k) (row n t' k) k
 wider-rows n t t' lines lines' grows k h = record {
   long = row-length n t' k lines'.0 h ∙ sym (row-length n t k lines.0 h);
   own = row-unsuspected n t' k k lines'.0 h h ∙ eq-eqb (suspects n t' k k) 0 (lines'.1 k h).own;

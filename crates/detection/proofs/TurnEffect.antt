@@ -13,9 +13,11 @@ use Rattle.station.specs.Wired.{wired_station}
 use Rattle.table.specs.Table.{head, stride, table_length, cell, status_column, status, finished, suspects, live}
 use Rattle.station.proofs.WiredLaws.{station-apart}
 use Rattle.lists.proofs.SearchLaws.{every-not}
-use Rattle.plant.specs.Turn.{outcome_at, kind_turn, next_test, makes_test, finish_pass, count_test, replies, is_told, exchange_rows, suspect, reply_outcome, test_outcome, after_outcome, after_test, self_or_suspected, is_alone, after_alone, testing, turn}
+use Rattle.plant.specs.Turn.{outcome_at, kind_turn, next_test, makes_test, finish_pass, count_test, replies, is_told, exchange_rows, suspect}
+use Rattle.plant.specs.Turn.{reply_outcome, test_outcome, after_outcome, after_test, self_or_suspected, is_alone, after_alone, testing, turn}
 use Rattle.station.specs.Outcome.{outcome_exchanged, outcome_no_reply}
-use Rattle.plant.proofs.StepCells.{finish_pass-other, count_test-other, suspect-same, suspect-other, exchange-other, exchange-tester, exchange-tested, exchange-tester-own, exchange-tested-own}
+use Rattle.plant.proofs.StepCells.{finish_pass-other, count_test-other, suspect-same, suspect-other, exchange-other}
+use Rattle.plant.proofs.StepCells.{exchange-tester, exchange-tested, exchange-tester-own, exchange-tested-own}
 use Rattle.plant.proofs.StepLines.{Lines, finish_pass-lines, count_test-lines, suspect-lines, exchange-lines}
 use Rattle.plant.proofs.NextTest.{next_test-low, test_below, test-station}
 use Rattle.lists.proofs.BoolLaws.{by_bool}
@@ -207,7 +209,9 @@ turn-effect w n L t kind i p company hi li going prompt = by_bool (makes_test w 
     finishes : makes_test w n t i ≡ false → TurnKept w n L t (finish_pass w n t i) i o
     finishes e =
         let lines = finish_pass-lines w n t i p.lines hi in
-        let same = same_rows w n L t _ lines (λ k c h counts _. finish_pass-other n t i w k c h (λ _. (λ e. counts (omega arith), λ e. counts (omega arith)))) p in
+        let same =
+        same_rows w n L t _ lines
+        (λ k c h counts _. finish_pass-other n t i w k c h (λ _. (λ e. counts (omega arith), λ e. counts (omega arith)))) p in
         record { plain = same.0; grows = same.1; outcome = λ m. absurd (true≢false (sym m ∙ e)); tests = λ m. absurd (true≢false (sym m ∙ e)) }
 
     makes : makes_test w n t i ≡ true → TurnKept w n L t (turn w n t kind i) i o
@@ -218,7 +222,9 @@ turn-effect w n L t kind i p company hi li going prompt = by_bool (makes_test w 
         let m<n = test_below w n t i e in
         let low = next_test-low w n t i in
         let lines₁ = count_test-lines w n t i p.lines hi m b (λ f. omega arith) low m<n in
-        let same = same_rows w n L t t₁ lines₁ (λ k c h counts _. count_test-other n t i w m b k c h (λ _. (λ e. counts (omega arith), λ e. counts (omega arith)))) p in
+        let same =
+        same_rows w n L t t₁ lines₁
+        (λ k c h counts _. count_test-other n t i w m b k c h (λ _. (λ e. counts (omega arith), λ e. counts (omega arith)))) p in
         let apart = station-apart w n i m hi (omega (arith, (p.lines.1 i hi).pass.next_low)) m<n in
         let x<n = test-station w n t i e p.lines.0 hi in
         let is = outcome-is w n L t i x p hi x<n apart li kind (prompt e) in

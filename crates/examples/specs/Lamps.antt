@@ -1,18 +1,16 @@
 -- Examples of the doubt lamp, in a table: what the definitions compute, and what is expected. One statement covers it.
 -- Assumes nothing.
-use Rattle.std.specs.Prelude.{◌≡◌, refl, List, [], ◌∷◌, map, ℕ, ◌+◌, Option, Some, None, Result, Ok, Err}
-use Rattle.lists.specs.Search.{least, every, list_of}
+use Rattle.std.specs.Prelude.{refl, List, [], ◌∷◌, ℕ, ◌+◌, Option, Some, None, Result, Ok, Err}
 use Rattle.lists.specs.Refusal.{number_of}
 use Rattle.lists.specs.declared.refusal.Refusal.{Refusal}
-use Rattle.table.specs.Sizes.{is_size, level, dimension, distances}
-use Rattle.table.specs.Wiring.{wiring_cube, end_distance}
-use Rattle.table.specs.Table.{head, table_length, line_start, cell, set_cell, status_column, next_column}
-use Rattle.table.specs.Rules.{exit_rule, row_rule, wired_line_rules, some_live, live_finished, shape_check, table_check_on}
-use Rattle.table.specs.Fresh.{fresh_byte, fresh_table}
+use Rattle.table.specs.Wiring.{wiring_cube}
+use Rattle.table.specs.Table.{head, set_cell, status_column, next_column}
+use Rattle.table.specs.Fresh.{fresh_table}
 use Rattle.plant.specs.Turn.{finish_pass}
 use Rattle.lamp.specs.declared.Doubt.{Doubt}
 use Rattle.lamp.specs.Doubt.{doubts, first_doubt, doubt_lamp}
-use Rattle.examples.specs.Master.{Example, expect, AllHold}
+use Rattle.examples.specs.Example.{Example, expect, AllHold}
+use Rattle.plant.proofs.WholeRun.{whole_run}
 
 -- the pair, nothing where there is none, or the number of the refusal
 abbrev pub lamp_figures : Result (Option Doubt) Refusal → List ℕ
@@ -31,6 +29,10 @@ crashed i t = set_cell 4 t i status_column 1
 unfoldable pub four_doubts : List ℕ
 four_doubts = suspecting 3 0 (suspecting 2 0 (suspecting 1 3 (suspecting 1 2 (fresh_table 4))))
 
+-- two boards that have finished their passes: 0 suspects 1
+abbrev pub all_finished : List ℕ
+all_finished = finish_pass wiring_cube 2 (finish_pass wiring_cube 2 (set_cell 2 (fresh_table 2) 0 (head + 1) 1) 0) 1
+
 unfoldable pub lamps : List Example
 lamps =
     -- nobody suspects anybody
@@ -48,10 +50,9 @@ lamps =
     ∷ expect (lamp_figures (doubt_lamp wiring_cube 65 (fresh_table 4))) (1 ∷ [])
     ∷ expect (lamp_figures (doubt_lamp wiring_cube 3 (fresh_table 4))) (2 ∷ [])
     ∷ expect (lamp_figures (doubt_lamp wiring_cube 4 (set_cell 4 (suspecting 0 1 (fresh_table 4)) 3 next_column 0))) (3 ∷ [])
-    ∷ expect (lamp_figures (doubt_lamp wiring_cube 2 (finish_pass wiring_cube 2 (finish_pass wiring_cube 2 (set_cell 2 (fresh_table 2) 0 (head + 1) 1) 0) 1))) (4 ∷ [])
+    ∷ expect (lamp_figures (doubt_lamp wiring_cube 2 all_finished)) (4 ∷ [])
     ∷ []
 
 pub lamps-hold : AllHold lamps
-unfolding lamps four_doubts doubt_lamp first_doubt doubts table_check_on shape_check is_size table_length every wired_line_rules end_distance exit_rule row_rule
-    some_live live_finished cell line_start set_cell fresh_table fresh_byte list_of finish_pass least level dimension distances
+unfolding whole_run lamps four_doubts doubt_lamp first_doubt doubts
 lamps-hold = refl

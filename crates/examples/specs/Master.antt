@@ -1,33 +1,15 @@
 -- Examples of grants and of drives, in two tables: what the definitions compute, and what is expected. One statement covers each.
 -- Assumes nothing.
-use Rattle.std.specs.Prelude.{◌≡◌, refl, List, [], ◌∷◌, map, ℕ, ◌+◌}
-use Rattle.lists.specs.Search.{least, every, list_of}
-use Rattle.table.specs.Sizes.{is_size, level, dimension, distances}
-use Rattle.station.specs.Groups.{width, member}
-use Rattle.table.specs.Wiring.{wiring_cube, end_distance}
-use Rattle.table.specs.Table.{head, table_length, line_start, cell, set_cell, status_column, row, set_row}
-use Rattle.table.specs.Rules.{exit_rule, row_rule, wired_line_rules, some_live, live_finished, shape_check, table_check_on}
-use Rattle.station.specs.Wired.{wired_station, wired_due}
-use Rattle.station.specs.Tests.{unsuspected, first_place, first, answer, due}
-use Rattle.station.specs.Rows.{union_byte, union, mark}
-use Rattle.table.specs.Fresh.{fresh_byte, fresh_table}
-use Rattle.lists.specs.Steps.{after_steps}
-use Rattle.plant.specs.Turn.{leave_told, next_test, makes_test, finish_pass, count_test, replies, is_told, exchange_rows, suspect, reply_outcome}
-use Rattle.station.specs.Wired.{next_after}
-use Rattle.plant.specs.Turn.{test_outcome, after_outcome, self_or_suspected, is_alone, after_alone, after_test, testing, turn}
-use Rattle.plant.specs.Round.{rounds_after, reset_line, reset_lines, after_round}
-use Rattle.plant.specs.Entry.{state_of, acted, after}
+use Rattle.std.specs.Prelude.{refl, List, [], ◌∷◌, map, ℕ, ◌+◌}
+use Rattle.table.specs.Wiring.{wiring_cube}
+use Rattle.table.specs.Table.{head, set_cell, status_column}
+use Rattle.table.specs.Fresh.{fresh_table}
+use Rattle.plant.specs.Turn.{finish_pass}
+use Rattle.plant.specs.Entry.{state_of}
 use Rattle.granter.specs.Grant.{waits, first_from, following, granted, grant_check, grant_refusal, grant_answer, grant_station}
 use Rattle.granter.specs.Drive.{DriveResult, grant_turn, after_grants, ended, stops, grants_made, outcome_after, drive}
-use Rattle.lists.specs.Bytes.{joined_byte}
-
--- one example: what the definitions compute, and what is expected
-pub record Example : Type 0 where
-  pub computed : List ℕ
-  pub expected : List ℕ
-
-abbrev pub expect : List ℕ → List ℕ → Example
-expect g s = record { computed = g; expected = s }
+use Rattle.examples.specs.Example.{Example, expect, AllHold}
+use Rattle.plant.proofs.WholeRun.{whole_run}
 
 -- who is granted in a table of four after each of the last numbers 255, 0, 1, 2, 3
 abbrev pub grants_of : List ℕ → List ℕ
@@ -88,24 +70,11 @@ drives =
     ∷ expect (drive_figures (drive wiring_cube 2 two_suspecting.state two_suspecting.last)) (17 ∷ 0 ∷ 2 ∷ 1 ∷ 0 ∷ [])
     ∷ []
 
--- each example holds
-abbrev pub AllHold : List Example → Type 0
-AllHold es = map (λ (e : Example). e.computed) es ≡ map (λ (e : Example). e.expected) es
-
 pub grants-hold : AllHold examples
-unfolding rounds_after leave_told examples two_wait one_waits all_dead two_fresh two_suspecting drive outcome_after grants_made stops ended
-    after_grants grant_turn grant_check grant_answer granted following first_from waits table_check_on shape_check is_size table_length every
-    wired_line_rules end_distance exit_rule row_rule some_live live_finished cell line_start row set_row set_cell fresh_table fresh_byte list_of after acted turn
-    reset_line reset_lines after_round after_steps next_test makes_test finish_pass next_after count_test replies is_told exchange_rows suspect
-    reply_outcome test_outcome after_outcome self_or_suspected is_alone after_alone after_test testing answer wired_station wired_due due first first_place least unsuspected member
-    width level dimension distances union union_byte joined_byte mark
+unfolding whole_run examples two_wait one_waits all_dead grant_check grant_answer granted following first_from waits
 grants-hold = refl
 
 pub drives-hold : AllHold drives
-unfolding rounds_after leave_told drives two_wait one_waits all_dead two_fresh two_suspecting drive outcome_after grants_made stops ended
-    after_grants grant_turn grant_check grant_answer granted following first_from waits table_check_on shape_check is_size table_length every
-    wired_line_rules end_distance exit_rule row_rule some_live live_finished cell line_start row set_row set_cell fresh_table fresh_byte list_of after acted turn
-    reset_line reset_lines after_round after_steps next_test makes_test finish_pass next_after count_test replies is_told exchange_rows suspect
-    reply_outcome test_outcome after_outcome self_or_suspected is_alone after_alone after_test testing answer wired_station wired_due due first first_place least unsuspected member
-    width level dimension distances union union_byte joined_byte mark
+unfolding whole_run drives two_fresh two_suspecting drive outcome_after grants_made stops ended after_grants grant_turn grant_check granted following
+    first_from waits
 drives-hold = refl

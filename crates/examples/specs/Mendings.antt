@@ -1,18 +1,15 @@
 -- Examples of mending, in a table: what the definitions compute, and what is expected. One statement covers it. Plants of two boards: a line has
 -- eight bytes, and the end distance is 2.
 -- Assumes nothing.
-use Rattle.std.specs.Prelude.{◌≡◌, refl, List, [], ◌∷◌, ◌++◌, flat_map, replicate, ℕ, ◌+◌, Result, Ok, Err}
-use Rattle.lists.specs.Search.{least, every, list_of}
+use Rattle.std.specs.Prelude.{refl, List, [], ◌∷◌, ◌++◌, flat_map, replicate, ℕ, ◌+◌, Result, Ok, Err}
 use Rattle.lists.specs.Refusal.{number_of}
 use Rattle.lists.specs.declared.refusal.Refusal.{Refusal}
-use Rattle.table.specs.Sizes.{is_size, level, dimension, distances}
-use Rattle.table.specs.Wiring.{wiring_cube, end_distance}
-use Rattle.table.specs.Table.{table_length, line_start, cell}
-use Rattle.table.specs.Rules.{exit_rule, some_live, live_finished, shape_check}
-use Rattle.table.specs.Fresh.{fresh_byte, fresh_table}
+use Rattle.table.specs.Wiring.{wiring_cube}
+use Rattle.table.specs.Fresh.{fresh_table}
 use Rattle.mender.specs.Mended.{line_byte, table_of, mended_byte, mended}
 use Rattle.mender.specs.Report.{changes, change_bytes, report_of, mends, mend_check, mend, report_after}
-use Rattle.examples.specs.Master.{Example, expect, AllHold}
+use Rattle.examples.specs.Example.{Example, expect, AllHold}
+use Rattle.plant.proofs.WholeRun.{whole_run}
 
 -- the bytes of the listed changes
 abbrev pub listed : List ℕ → List ℕ
@@ -66,6 +63,5 @@ mendings =
     ∷ []
 
 pub mendings-hold : AllHold mendings
-unfolding mendings mend mend_check report_after report_of changes mended mended_byte table_of line_byte shape_check is_size table_length every
-    exit_rule some_live live_finished cell line_start fresh_table fresh_byte list_of least level dimension distances end_distance
+unfolding whole_run mendings mend mend_check report_after report_of changes mended mended_byte table_of line_byte
 mendings-hold = refl

@@ -1,37 +1,21 @@
 -- Examples of the plant's rules, in two tables: what the definitions compute, and what is expected. One statement covers each.
 -- Assumes nothing.
-use Rattle.std.specs.Prelude.{◌≡◌, ℕ, ◌+◌, List, [], ◌∷◌, map, drop, replicate, refl}
-use Rattle.lists.specs.Search.{least, every, list_of}
-use Rattle.table.specs.Sizes.{is_size, level, dimension, distances}
-use Rattle.station.specs.Groups.{width, member, full_group, group, station_at}
-use Rattle.table.specs.Wiring.{wiring_cube, end_distance}
-use Rattle.table.specs.Table.{head, table_length, line_start, cell, set_cell, status_column, next_column, told_by_column, rounds_ago_column}
-use Rattle.table.specs.Table.{told_by, row, set_row}
-use Rattle.table.specs.Rules.{exit_rule, row_rule, wired_line_rules, some_live, live_finished, shape_check, table_check_on, table_refusal}
-use Rattle.station.specs.Wired.{wired_station, wired_due}
-use Rattle.station.specs.Tests.{unsuspected, first_place, first, answer, due, due_distances}
-use Rattle.station.specs.Rows.{union_byte, union, mark}
-use Rattle.table.specs.Fresh.{fresh_byte, fresh_table}
+use Rattle.std.specs.Prelude.{ℕ, ◌+◌, List, [], ◌∷◌, map, drop, replicate, refl}
+use Rattle.station.specs.Groups.{group, station_at}
+use Rattle.table.specs.Wiring.{wiring_cube}
+use Rattle.table.specs.Table.{head, line_start, set_cell, status_column, next_column, told_by_column, rounds_ago_column}
+use Rattle.table.specs.Table.{told_by, row}
+use Rattle.table.specs.Rules.{table_refusal}
+use Rattle.station.specs.Tests.{due_distances}
+use Rattle.table.specs.Fresh.{fresh_table}
 use Rattle.station.specs.Calls.{other_distances, assignment_entries}
-use Rattle.lists.specs.Steps.{after_steps}
-use Rattle.plant.specs.Turn.{leave_told, next_test, makes_test, finish_pass, count_test, replies, is_told, exchange_rows, suspect, reply_outcome}
-use Rattle.station.specs.Wired.{next_after}
-use Rattle.plant.specs.Turn.{test_outcome, after_outcome, self_or_suspected, is_alone, after_alone, after_test, testing, turn, turn_tested, turn_outcome}
-use Rattle.plant.specs.Turn.{crash}
-use Rattle.plant.specs.Round.{rounds_after, reset_line, reset_lines, after_round}
-use Rattle.plant.specs.Entry.{state_of, entry_check, entry_refusal, acted, after, tested_of, outcome_of, sheet_line}
-use Rattle.plant.specs.Run.{RunResult, entries, go_on, start_check, start_refusal, run}
+use Rattle.plant.specs.Turn.{finish_pass}
+use Rattle.plant.specs.Entry.{state_of}
+use Rattle.plant.specs.Run.{RunResult, run}
 use Rattle.lists.specs.Sums.{sum_below}
 use Rattle.detection.specs.Claim.{group_without_live, pairs_without_live, tests_per_round}
-use Rattle.lists.specs.Bytes.{joined_byte}
-
--- one example: what the definitions compute, and what is expected
-pub record Example : Type 0 where
-  pub computed : List ℕ
-  pub expected : List ℕ
-
-abbrev pub expect : List ℕ → List ℕ → Example
-expect g s = record { computed = g; expected = s }
+use Rattle.examples.specs.Example.{Example, expect, AllHold}
+use Rattle.plant.proofs.WholeRun.{whole_run}
 
 -- a row of eight stations in which nothing, and in which station 4 is suspected
 abbrev pub nobody : List ℕ
@@ -186,27 +170,12 @@ later_rules =
     ∷ expect (map (refusal_of 2 0) (0 ∷ 1 ∷ 2 ∷ 3 ∷ 4 ∷ 253 ∷ 254 ∷ 255 ∷ [])) (0 ∷ 3 ∷ 0 ∷ 3 ∷ 3 ∷ 3 ∷ 0 ∷ 3 ∷ [])
     ∷ []
 
--- each example holds
-abbrev pub AllHold : List Example → Type 0
-AllHold es = map (λ (e : Example). e.computed) es ≡ map (λ (e : Example). e.expected) es
-
 pub base-hold : AllHold base_rules
-unfolding rounds_after leave_told base_rules four_boards four_dead four_and_five_dead four_dead_of_eleven zero_suspects_one station_two_finished
-    tested_told alone_of_two alone_of_three pairs_without_live group_without_live sum_below run start_check table_check_on shape_check is_size table_length
-    every wired_line_rules end_distance exit_rule row_rule some_live live_finished cell line_start row set_row set_cell fresh_table fresh_byte list_of go_on entries
-    entry_check after acted sheet_line tested_of outcome_of turn turn_tested turn_outcome crash reset_line reset_lines after_round after_steps
-    next_test makes_test finish_pass next_after count_test replies is_told exchange_rows suspect reply_outcome test_outcome after_outcome self_or_suspected
-    is_alone after_alone after_test testing answer wired_station wired_due due due_distances other_distances assignment_entries first first_place least unsuspected member width
-    level dimension distances group full_group union union_byte joined_byte mark
+unfolding whole_run base_rules four_boards four_dead four_and_five_dead pairs_without_live group_without_live sum_below due_distances
+    other_distances assignment_entries
 base-hold = refl
 
 pub later-hold : AllHold later_rules
-unfolding rounds_after leave_told later_rules after_closing refusal_of four_boards four_dead four_and_five_dead four_dead_of_eleven
-    zero_suspects_one station_two_finished tested_told alone_of_two alone_of_three pairs_without_live group_without_live sum_below run start_check
-    table_check_on shape_check is_size table_length every wired_line_rules end_distance exit_rule row_rule some_live live_finished cell line_start row set_row set_cell
-    fresh_table fresh_byte list_of go_on entries entry_check after acted sheet_line tested_of outcome_of turn turn_tested turn_outcome crash
-    reset_line reset_lines after_round after_steps next_test makes_test finish_pass next_after count_test replies is_told exchange_rows suspect
-    reply_outcome test_outcome after_outcome self_or_suspected is_alone after_alone after_test testing answer wired_station wired_due due due_distances other_distances
-    assignment_entries first first_place least unsuspected member width level dimension distances group full_group union union_byte joined_byte
-    mark
+unfolding whole_run later_rules after_closing refusal_of four_boards four_dead_of_eleven zero_suspects_one station_two_finished tested_told
+    alone_of_two alone_of_three pairs_without_live group_without_live sum_below due_distances other_distances assignment_entries
 later-hold = refl

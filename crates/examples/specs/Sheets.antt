@@ -1,14 +1,14 @@
 -- Examples of which tests a board makes, and how many: what the definitions compute, and what is expected, in one table, and one that takes longer
 -- to compute.
 -- Assumes nothing.
-use Rattle.std.specs.Prelude.{◌≡◌, ℕ, true, false, List, [], ◌∷◌, map, refl}
+use Rattle.std.specs.Prelude.{◌≡◌, ℕ, true, false, List, [], ◌∷◌, refl}
 use Rattle.lists.specs.Search.{least, list_of, greatest}
 use Rattle.table.specs.Sizes.{level, dimension, distances}
 use Rattle.station.specs.Groups.{width, member}
 use Rattle.station.specs.Tests.{unsuspected, first_place, first, answer, due, due_distances}
 use Rattle.station.specs.Rows.{mark}
-use Rattle.examples.specs.Plant.{Example, expect}
 use Rattle.slots.specs.Slots.{tested, untested_distances, untested, ahead, tests_due, tests_with, most_tests, most_of_boards}
+use Rattle.examples.specs.Example.{Example, expect, AllHold}
 
 -- the row of n boards in which nobody is suspected
 unfoldable pub empty_row : ℕ → List ℕ
@@ -42,7 +42,7 @@ examples =
     ∷ []
 
 -- each example holds
-pub hold : map (λ (e : Example). e.computed) examples ≡ map (λ (e : Example). e.expected) examples
+pub hold : AllHold examples
 unfolding examples empty_row tested untested_distances untested ahead tests_due greatest tests_with most_tests most_of_boards due_distances due
     answer first first_place unsuspected mark member width level dimension distances least list_of
 hold = refl

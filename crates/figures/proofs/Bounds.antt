@@ -1,8 +1,8 @@
 -- The totals of results of 16 bits: at most 65,535 for each result, and the square of it. So a list of at most 4,096 is not overfull.
 -- Assumes nothing.
-use mathlib.Core.Path.{◌≡◌, refl, sym, ◌∙◌}
+use mathlib.Core.Path.{◌≡◌, sym, ◌∙◌}
 use mathlib.Core.List.{List}
-use mathlib.Core.Bool.{Bool, true, false, ◌||◌}
+use mathlib.Core.Bool.{true, false, ◌||◌}
 use mathlib.Core.Logic.{by_cases}
 use Prim.Native.Nat.{ℕ, ◌*◌, ◌^◌, ◌<◌, ◌≤◌}
 use native.Mathlib.Nat.{mul-le-mul}
@@ -68,6 +68,8 @@ count_squares_fit t e =
 
 pub sum_squared_fits : (t : Totals) → overfull t ≡ false → t.sum * t.sum < 2 ^ 64
 sum_squared_fits t e = let f = overfull_fits t e in omega (arith, mul-le-mul f.sum_fits f.sum_fits)
+
+pub ruleset variance_fits = (count_squares_fit, sum_squared_fits)
 
 fits-overfull : (t : Totals) → TotalsFit t → overfull t ≡ false
 unfolding overfull

@@ -127,3 +127,6 @@ module _ (xs ys : List ℕ) where
   pub join_ok : (a b t : Totals) → Small xs → Small ys → totals xs ≡ Ok a → totals ys ≡ Ok b → join a b ≡ Ok t
       → figures_of_totals t ≡ figures (xs ++ ys)
   join_ok a b t p q e f g = rw (e, f, g) at (figures-of-lists p q)
+
+-- what `figures_of_two` needs of them
+pub ruleset two_lists = (first_err, second_err, join_err, join_ok)

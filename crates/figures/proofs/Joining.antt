@@ -50,3 +50,5 @@ least_from_first (x ∷ xs) = ap (λ y. fold min y xs) (omega arith)
 pub greatest_from_zero : (xs : List ℕ) → fold max 0 xs ≡ greatest_of_results xs
 greatest_from_zero [] = refl
 greatest_from_zero (x ∷ xs) = ap (λ y. fold max y xs) (omega arith)
+
+pub ruleset extremes = (least_from_first, greatest_from_zero)

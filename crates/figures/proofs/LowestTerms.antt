@@ -76,4 +76,5 @@ pub lowest-scaled : (k upper lower : ℕ) → 0 < k → lowest (k * upper) (k * 
 unfolding lowest
 lowest-scaled k upper lower pos =
     rw gcd-scaled
-    (ap₂ {C = Fraction} (λ a b. record { upper = a; lower = b }) (mul-div-mul_left upper (gcd upper lower) pos) (mul-div-mul_left lower (gcd upper lower) pos))
+    (ap₂ {C = Fraction} (λ a b. record { upper = a; lower = b }) (mul-div-mul_left upper (gcd upper lower) pos)
+    (mul-div-mul_left lower (gcd upper lower) pos))

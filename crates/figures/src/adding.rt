@@ -49,7 +49,7 @@ pub(crate) fn is_overfull(t: Totals) -> bool
 }
 
 // The totals of at most 4,096 results.
-#[tactic(auto, using(crate::proofs::Joining::least_from_first, crate::proofs::Joining::greatest_from_zero), unfolding(crate::specs::Totals::totals_of))]
+#[tactic(auto, using(crate::proofs::Joining::extremes), unfolding(crate::specs::Totals::totals_of))]
 fn add_up(results: &[u16]) -> Totals
     requires { length results.now ≤ most_results }
     ensures { result ≡ totals_of results.now }

@@ -15,7 +15,7 @@ pub fn figures(results: &[u16]) -> Result<Figures, Refusal>
 }
 
 // Figures of two lists: those of the one list that holds both. Their totals are joined; no list is read twice.
-#[tactic(auto, using(crate::proofs::FiguresLaws::first_err, crate::proofs::FiguresLaws::second_err, crate::proofs::FiguresLaws::join_err, crate::proofs::FiguresLaws::join_ok))]
+#[tactic(auto, using(crate::proofs::FiguresLaws::two_lists))]
 pub fn figures_of_two(first: &[u16], second: &[u16]) -> Result<Figures, Refusal>
     ensures { result ≡ figures (first.now ++ second.now) }
 {
@@ -45,7 +45,7 @@ pub fn figures_of_totals(t: Totals) -> Result<Figures, Refusal>
 }
 
 // The variance by the totals: (count * squares - sum * sum) / (count * count).
-#[tactic(auto, using(crate::proofs::Bounds::count_squares_fit, crate::proofs::Bounds::sum_squared_fits), unfolding(crate::specs::Totals::variance_of))]
+#[tactic(auto, using(crate::proofs::Bounds::variance_fits), unfolding(crate::specs::Totals::variance_of))]
 fn variance_of(t: Totals) -> Fraction
     requires count_nonzero { 0 < t.count }
     requires not_overfull { overfull t ≡ false }

@@ -6,7 +6,6 @@ use mathlib.Core.Bool.{true, false}
 use mathlib.Core.List.{List}
 use Prim.Native.Nat.{ℕ, suc, ◌+◌, ◌*◌, ◌≤◌, ◌<◌}
 use native.Mathlib.Decide.{dec_lt}
-use native.Mathlib.Nat.{mul-le-mul}
 use native.Mathlib.Numerals.{add-one}
 use native.Mathlib.Omega.{arith}
 use borrow.Author.Tests.{eqb-true, eqb-false, eq-eqb, ne_eqb, not-false}
@@ -14,7 +13,6 @@ use lib.Dec.{eqb}
 use Rattle.table.specs.Rules.{some_live, round_over, numbered_table_refusal}
 use Rattle.lists.proofs.BoolLaws.{by_bool, neither}
 use Rattle.lists.proofs.SearchLaws.{least-is, least-none}
-use Rattle.table.proofs.SizeLaws.{size-bounds}
 use Rattle.table.proofs.Accepting.{Accepted}
 use Rattle.table.proofs.CellLaws.{accepted-line}
 use Rattle.plant.specs.Turn.{kind_turn, kind_crash}
@@ -28,7 +26,8 @@ use Rattle.std.specs.Prelude.{Err}
 use Rattle.lists.specs.declared.refusal.Refusal.{Refusal}
 use Rattle.lists.specs.Refusal.{number_of}
 use Rattle.lists.proofs.RefusalLaws.{number_nonzero}
-use Rattle.granter.specs.Drive.{Stand, stand_at, granted_at, grant_turn, after_grants, ended, ended_after, full_after, stops, grants_made, drive_outcome, outcome_after, drive, Stopped}
+use Rattle.granter.specs.Drive.{Stand, stand_at, granted_at, grant_turn, after_grants, ended, ended_after, full_after, stops, grants_made}
+use Rattle.granter.specs.Drive.{drive_outcome, outcome_after, drive, Stopped}
 use Rattle.granter.proofs.GrantLaws.{Grantable, granted-waits, waits-parts, turn-taken}
 use Rattle.granter.proofs.TurnsLeft.{all_left, all-left-most, turn-left}
 
@@ -87,7 +86,7 @@ module _ (w n : ℕ) (s : State) (last kind : ℕ) (ok : Accepted w n s.table) (
   pub fewer-after : (after w n s entry).rounds ≡ s.rounds → all_left w n (after w n s entry).table < all_left w n s.table
   unfolding after after_round
   fewer-after same =
-      by_bool (round_over n (acted w n s.table entry)) (λ over. absurd (omega (arith, rw over at same))) (λ over. rw over turn-fewer)
+      by_bool (round_over n (acted w n s.table entry)) (λ over. omega (arith, rw over at same)) (λ over. rw over turn-fewer)
 
 -- the next grant
 module _ (w n : ℕ) (p : Stand) (k : ℕ) (d : Driving w n p k) where
@@ -135,7 +134,8 @@ pub stopped-full : (w n : ℕ) (p : Stand) (k : ℕ) → Driving w n p k → ful
 unfolding stops
 stopped-full w n p k d full = record { within = omega (arith, d.room); stopped = rw (d.open-still, full); first = d.before }
 
-pub stopped-ended : (w n : ℕ) (p : Stand) (k : ℕ) → Driving w n p k → full_after w n p k ≡ false → ended_after w n p (suc k) ≡ true → Stopped w n p (suc k)
+pub stopped-ended : (w n : ℕ) (p : Stand) (k : ℕ) → Driving w n p k → full_after w n p k ≡ false → ended_after w n p (suc k) ≡ true
+    → Stopped w n p (suc k)
 unfolding stops
 stopped-ended w n p k d fits o = record { within = next-within w n p k d; stopped = rw o; first = next-before w n p k d fits }
 
@@ -160,12 +160,6 @@ pub drive-made : (w n : ℕ) (s : State) (last k : ℕ) → grant_refusal w n s.
     → outcome_after w n (stand_at s last) k ≡ drive w n s last
 unfolding drive
 drive-made w n s last k z stop = rw (z, made-is w n (stand_at s last) k stop)
-
--- the grants made so far are few
-pub grants-small : (w n : ℕ) (p : Stand) (k : ℕ) → Driving w n p k → k ≤ 4096
-grants-small w n p k d =
-    let top = (size-bounds n d.ok.size).1 in
-    omega (arith, d.room, mul-le-mul top top)
 
 -- a grant and its turn, by the station and the state after it
 pub turned-is : (w n : ℕ) (q : Stand) (s : State) (i : ℕ) → i ≡ granted_at n q → s ≡ after w n q.state (entry_of kind_turn i)

@@ -3,7 +3,7 @@
 -- Assumes nothing.
 use mathlib.Core.Path.{◌≡◌, sym, ◌∙◌}
 use mathlib.Core.Logic.{◌⊎◌, inl, inr, ◌≢◌, by_cases}
-use mathlib.Core.Bool.{true, false, true≢false}
+use mathlib.Core.Bool.{true, false}
 use mathlib.Core.List.{List}
 use Prim.Native.Nat.{ℕ, zero, suc, ◌+◌, ◌-◌, ◌≤◌, ◌<◌}
 use native.Mathlib.Decide.{dec_lt, ℕ_discrete}
@@ -23,9 +23,11 @@ use Rattle.granter.proofs.GrantLaws.{waits-parts, grantable, grant-zero, station
 use Rattle.granter.specs.Fairness.{stations_before, NextGoingRound, last_before, Grants, BoundedWaiting}
 
 -- nobody who waits stands before the first that does
-passed : (n : ℕ) (t : List ℕ) (i : ℕ) → waits n t i ≡ true → (c : ℕ) → c ≤ i → i < first_from n t c → ⊥
+passed : (n : ℕ) (t : List ℕ) (i : ℕ) → waits n t i ≡ true → (c : ℕ) → c ≤ i → first_from n t c ≤ i
 unfolding first_from
-passed n t i w c lo hi = true≢false (sym w ∙ least-before (waits n t) (n - c) c i lo hi)
+passed n t i w c lo =
+    by_cases (dec_lt i (first_from n t c))
+    (λ hi. cc (least-before (waits n t) (n - c) c i lo hi)) (λ hi. omega arith)
 
 first-low : (n : ℕ) (t : List ℕ) (c : ℕ) → c ≤ first_from n t c
 unfolding first_from
@@ -51,19 +53,16 @@ no-later n t last i below gw h w = by_bool (ltb p n) on round
         let here : granted n t last ≡ p = rw e in
         by_cases (dec_lt i b)
         (λ l. rw (here, le-ltb p b (first-low n t b), lt-ltb i b l) (omega (arith, ltb-true p n e)))
-        (λ l.
-        let past : p ≤ i = by_cases (dec_lt i p) (λ m. absurd (passed n t i w b (omega arith) m)) (λ m. omega arith) in
-        rw (here, le-ltb p b (first-low n t b), le-ltb i b (omega arith)) (omega arith))
+        (λ l. rw (here, le-ltb p b (first-low n t b), le-ltb i b (omega arith)) (omega (arith, passed n t i w b)))
 
     round : ltb p n ≡ false → stations_before n b (granted n t last) ≤ stations_before n b i
     round e =
         let here : granted n t last ≡ q = rw e in
         let far = ltb-false p n e in
         let inside : q < n = rw here at below in
-        let first : q < b = by_cases (dec_lt q b) (λ l. l) (λ l. absurd (passed n t q (rw here at gw) b (omega arith) (omega arith))) in
-        let later : q ≤ i = by_cases (dec_lt i q) (λ l. absurd (passed n t i w 0 (omega arith) l)) (λ l. omega arith) in
-        by_cases (dec_lt i b) (λ l. rw (here, lt-ltb q b first, lt-ltb i b l) (omega arith))
-        (λ l. absurd (passed n t i w b (omega arith) (omega arith)))
+        let first : q < b = grind (arith, passed n t q (rw here at gw) b) in
+        let before : i < b = grind (arith, passed n t i w b) in
+        rw (here, lt-ltb q b first, lt-ltb i b before) (omega (arith, passed n t i w 0))
 
 -- the granted station is the next that waits, going round: an end in itself
 pub next-going-round : NextGoingRound
@@ -78,14 +77,12 @@ before-most n b i hb hi = by_bool (ltb i b) (λ e. rw e (omega (arith, ltb-true 
 
 -- a grant to g that comes before i in the going round brings i nearer: g stands from b on, and i does not stand between, or both stand
 -- before b, where the round comes later, g first
-nearer-on : (n b g i : ℕ) → g < n → b ≤ g → i ≢ g → (b ≤ i → i < g → ⊥) → stations_before n (suc g) i < stations_before n b i
+nearer-on : (n b g i : ℕ) → g < n → b ≤ g → i ≢ g → (b ≤ i → g ≤ i) → stations_before n (suc g) i < stations_before n b i
 unfolding stations_before
 nearer-on n b g i hg le apart none =
     by_cases (dec_lt i b)
     (λ l. rw (lt-ltb i b l, lt-ltb i (suc g) (omega arith)) (omega arith))
-    (λ l.
-    let past : g < i = by_cases (dec_lt i g) (λ m. absurd (none (omega arith) m)) (λ m. omega arith) in
-    rw (le-ltb i b (omega arith), le-ltb i (suc g) (omega arith)) (omega arith))
+    (λ l. rw (le-ltb i b (omega arith), le-ltb i (suc g) (omega (arith, none))) (omega arith))
 
 nearer-round : (n b g i : ℕ) → b ≤ n → i < b → g < i → stations_before n (suc g) i < stations_before n b i
 unfolding stations_before
@@ -140,9 +137,9 @@ module _ (w n : ℕ) (t : List ℕ) (last i : ℕ) (z : numbered_table_refusal w
       round e apart =
           let here : granted n t last ≡ q = rw e in
           let far = ltb-false p n e in
-          let before : i < b = by_cases (dec_lt i b) (λ l. l) (λ l. absurd (passed n t i waiting b (omega arith) (omega arith))) in
+          let before : i < b = grind (arith, passed n t i waiting b) in
           let other : i ≢ q = λ f. apart (f ∙ sym here) in
-          let later : q < i = by_cases (dec_lt i q) (λ l. absurd (passed n t i waiting 0 (omega arith) l)) (λ l. omega arith) in
+          let later : q < i = omega (arith, passed n t i waiting 0) in
           rw here (nearer-round n b q i (following-most n last fits) before later)
 
   nearer : i ≢ granted n t last → stations_before n (following (granted n t last)) i < stations_before n (following last) i
@@ -173,8 +170,11 @@ module _ (w n : ℕ) (tables : ℕ → List ℕ) (last a i : ℕ) (fits : last_r
   abbrev Granted : ℕ → Type 0
   Granted j = (k : ℕ) × (a ≤ k) × (k < a + j) × Grants w n tables last k i
 
+  abbrev Nearer : ℕ → Type 0
+  Nearer j = stations_before n (following (from (a + j))) i + j < n
+
   -- after j of them it was granted, or it is j nearer
-  after : (j : ℕ) → j ≤ n → Granted j ⊎ (stations_before n (following (from (a + j))) i + j < n)
+  after : (j : ℕ) → j ≤ n → Granted j ⊎ Nearer j
   unfolding last_before grant_answer
   after zero le =
       let fits = last_fits w n tables last fits (a + 0) in
@@ -199,7 +199,7 @@ module _ (w n : ℕ) (tables : ℕ → List ℕ) (last a i : ℕ) (fits : last_r
       next : from (suc k) ≡ granted n (tables k) (from k)
       next = rw taken
 
-      step : Granted j ⊎ (stations_before n (following (from k)) i + j < n) → Granted (suc j) ⊎ (stations_before n (following (from (a + suc j))) i + suc j < n)
+      step : Granted j ⊎ Nearer j → Granted (suc j) ⊎ Nearer (suc j)
       step (inl g) = inl (g.0, g.1, omega (arith, g.2), g.3)
       step (inr near) =
           by_cases (ℕ_discrete i (granted n (tables k) (from k)))
@@ -208,11 +208,14 @@ module _ (w n : ℕ) (tables : ℕ → List ℕ) (last a i : ℕ) (fits : last_r
           let s : a + suc j ≡ suc k = omega arith in
           inr (rw (s, next) (omega (arith, near, nearer w n (tables k) (from k) i z f h here e))))
 
+  -- it cannot be n nearer
+  in-turn : Granted n
+  in-turn = pick (after n (omega arith))
+    where
+      pick : Granted n ⊎ Nearer n → Granted n
+      pick (inl g) = g
+      pick (inr l) = absurd (omega arith)
+
 -- fairness, an end in itself
 pub bounded-waiting : BoundedWaiting
-bounded-waiting w n tables last a i fits h waiting = pick (after w n tables last a i fits h waiting n (omega arith))
-  where
-    pick : ((k : ℕ) × (a ≤ k) × (k < a + n) × Grants w n tables last k i) ⊎ (stations_before n (following (last_before w n tables last (a + n))) i + n < n)
-        → (k : ℕ) × (a ≤ k) × (k < a + n) × Grants w n tables last k i
-    pick (inl g) = g
-    pick (inr l) = absurd (omega arith)
+bounded-waiting = in-turn

@@ -16,7 +16,8 @@ use Rattle.plant.proofs.RulesKept.{accepted-kept}
 use Rattle.granter.specs.Drive.{Stand, stand_at, grant_turn, after_grants, ended_after, full_after, Stopped}
 use Rattle.granter.proofs.GrantLaws.{grantable}
 use Rattle.granter.proofs.TurnsLeft.{all_left}
-use Rattle.granter.proofs.DriveLaws.{Driving, not-ended, driving-start, turn-fewer, fewer-after, next-within, next-driving, stopped-full, stopped-ended, made-is}
+use Rattle.granter.proofs.DriveLaws.{Driving, not-ended, driving-start, turn-fewer, fewer-after, next-within, next-driving}
+use Rattle.granter.proofs.DriveLaws.{stopped-full, stopped-ended, made-is}
 use Rattle.granter.specs.Within.{TurnKinds, after_turns, over_after, NoneRefused, RoundEndsInSquare, KindOneIsDriven, DriveStops}
 
 -- from k grants on, with so many grants left to n·n

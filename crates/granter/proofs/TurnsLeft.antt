@@ -40,7 +40,7 @@ sum-most f (suc n) c most = omega (arith, sum_below-suc f n, sum-most f n c (λ 
 
 -- one term is less and the others are the same
 sum_less : (f g : ℕ → ℕ) (n p : ℕ) → p < n → ((i : ℕ) → i < n → i ≢ p → g i ≡ f i) → g p < f p → sum_below g n < sum_below f n
-sum_less f g zero p h same less = absurd (omega arith)
+sum_less f g zero p h same less = omega arith
 sum_less f g (suc n) p h same less =
     by_cases (dec_lt p n)
     (λ l. omega (

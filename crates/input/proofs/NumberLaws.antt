@@ -18,7 +18,8 @@ use Rattle.std.specs.Str.{IsUtf8, IsAscii}
 use Rattle.std.specs.Str.Parse.{ParsesUnsigned}
 use Rattle.std.proofs.lemmas.Str.{IsUtf8-from_ascii}
 use Rattle.std.proofs.lemmas.Str.Ascii.{IsAscii-nil, IsAscii-cons}
-use Rattle.std.proofs.lemmas.Str.Parse.{IsNumeralModel, IsDigitsTest, numerals_by_fold, tells_all_ascii_digits, parse_digits, parse_gives, digits_value_short}
+use Rattle.std.proofs.lemmas.Str.Parse.{IsNumeralModel, IsDigitsTest, numerals_by_fold, tells_all_ascii_digits}
+use Rattle.std.proofs.lemmas.Str.Parse.{parse_digits, parse_gives, digits_value_short}
 use Rattle.std.proofs.Math.Nat.{pow-succ', pow-le-pow_right}
 use Rattle.input.specs.Input.{is_digit, digits_from, digits_value}
 
@@ -105,7 +106,7 @@ digits-small (b ∷ rest) k v w h e = go (is_digit b) refl e (digits-small rest 
     go true p e f =
         let y : k + suc (length rest) ≡ k + 1 + length rest = omega arith in
         rw y (f (omega (arith, ten-next k, leb-true b 57 (both_true (leb 48 b) (leb b 57) p))) e)
-    go false p e f = let z : ◌≡◌ {A = ℕ} 0 1 = cc in absurd (omega arith)
+    go false p e f = cc
 
 -- what a number has
 pub number-has : (most : ℕ) (l : List ℕ) (v : ℕ) → digits_value most l ≡ Some v → (length l ≤ most) × (digits_from 0 l ≡ Some v)
@@ -115,8 +116,8 @@ number-has most l v = go (leb 1 (length l)) (leb (length l) most) refl
     go : (a b : Bool) → leb (length l) most ≡ b → cond (a && b) (digits_from 0 l) None ≡ Some v
         → (length l ≤ most) × (digits_from 0 l ≡ Some v)
     go true true p e = (leb-true (length l) most p, e)
-    go true false p e = let z : ◌≡◌ {A = ℕ} 0 1 = cc in absurd (omega arith)
-    go false b p e = let z : ◌≡◌ {A = ℕ} 0 1 = cc in absurd (omega arith)
+    go true false p e = cc
+    go false b p e = cc
 
 -- a number of at most two digits fits a byte
 pub number_two : (l : List ℕ) (w : ℕ) → digits_value 2 l ≡ Some w → w ≤ 99

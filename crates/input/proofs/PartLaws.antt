@@ -70,7 +70,7 @@ parts-some (b ∷ t) = go (is_line_feed b) (parts t) (parts-some t)
   where
     go : (x : Bool) (ps : List (List ℕ)) → 0 < length ps → 0 < length (cond x ([] ∷ ps) (onto_first b ps))
     go true ps h = omega arith
-    go false [] h = absurd (omega arith)
+    go false [] h = omega arith
     go false (p ∷ ps) h = omega arith
 
 -- the parts of a text are the lines of an input that has a line feed more, or that is the text

@@ -14,7 +14,7 @@ use Rattle.input.specs.Input.{given, lines, digits_from, digits_value, size_of, 
 use Rattle.input.specs.Input.{read_lines, read_up_to}
 use Rattle.input.specs.Fault.{fault_in, parsed_of}
 use Rattle.input.specs.declared.fault.Fault.{Fault}
-use Rattle.input.proofs.NumberLaws.{number-has}
+use Rattle.input.proofs.NumberLaws.{number-has, number_two}
 use Rattle.lists.proofs.Writing.{sets-front}
 
 -- the entry of a line by the line's bytes
@@ -38,6 +38,9 @@ entry_spaced [] h s = absurd (omega arith)
 entry_spaced (a ∷ []) h s = absurd (omega arith)
 entry_spaced (a ∷ b ∷ l) h s = let e : take (suc (suc (length l)) - 2) l ≡ l = take_all _ l (omega arith) in rw (eq-eqb b 32 s, e)
 
+-- what `read_entry` needs of them
+pub ruleset entry_read = (entry_short, entry_unspaced, entry_spaced, number_two)
+
 -- an entry's line is short
 entry_has : (l : List ℕ) (e : ℕ × ℕ) → entry_in_line l ≡ Some e → length l ≤ 4
 unfolding entry_in_line
@@ -48,9 +51,9 @@ entry_has (a ∷ b ∷ l) e p = go (eqb b 32) (kind_of a) (digits_value 2 l) (nu
     go : (x : Bool) (k o : Option ℕ) → ((v : ℕ) → o ≡ Some v → (length l ≤ 2) × (digits_from 0 l ≡ Some v))
         → cond x (option_and_then (λ kind. option_map (λ station. (kind, station)) o) k) None ≡ Some e → suc (suc (length l)) ≤ 4
     go true (Some k) (Some v) f p = let h = f v refl in omega arith
-    go true (Some k) None f p = let z : ◌≡◌ {A = ℕ} 0 1 = cc in absurd (omega arith)
-    go true None o f p = let z : ◌≡◌ {A = ℕ} 0 1 = cc in absurd (omega arith)
-    go false k o f p = let z : ◌≡◌ {A = ℕ} 0 1 = cc in absurd (omega arith)
+    go true (Some k) None f p = cc
+    go true None o f p = cc
+    go false k o f p = cc
 
 -- so too where it is read only if there is room for one more
 pub taken-has : (k room : ℕ) (l : List ℕ) (e : ℕ × ℕ) → cond (ltb k room) (entry_in_line l) None ≡ Some e → (k < room) × (length l ≤ 4)
@@ -58,7 +61,7 @@ taken-has k room l e = go (ltb k room) refl
   where
     go : (b : Bool) → ltb k room ≡ b → cond b (entry_in_line l) None ≡ Some e → (k < room) × (length l ≤ 4)
     go true t p = (ltb-true k room t, entry_has l e p)
-    go false t p = let z : ◌≡◌ {A = ℕ} 0 1 = cc in absurd (omega arith)
+    go false t p = cc
 
 -- what stands after k + 1 entries is as it was
 pub rest-kept : (k : ℕ) (s s' s₀ : List ℕ) → drop (2 * k + 2) s' ≡ drop (2 * k + 2) s → drop (2 * k) s ≡ drop (2 * k) s₀

@@ -139,7 +139,7 @@ fn further_fault(line: &[u8]) -> Fault
 }
 
 // The entry of a line, if it is one.
-#[tactic(auto, using(crate::proofs::ReadLaws::entry_short, crate::proofs::ReadLaws::entry_unspaced, crate::proofs::ReadLaws::entry_spaced, crate::proofs::NumberLaws::number_two))]
+#[tactic(auto, using(crate::proofs::ReadLaws::entry_read))]
 fn read_entry(line: &[u8]) -> Option<Entry>
     ensures { option_map pair_of result ≡ entry_in_line line.now }
 {

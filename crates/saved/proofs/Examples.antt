@@ -1,12 +1,6 @@
 -- The examples of specs/Examples hold: they are computed.
 -- Assumes nothing.
 use mathlib.Core.Path.{refl}
-use Rattle.lists.specs.Search.{every, list_of, least}
-use Rattle.table.specs.Sizes.{is_size, level, dimension, distances}
-use Rattle.table.specs.Table.{table_length, line_start, cell}
-use Rattle.table.specs.Wiring.{end_distance}
-use Rattle.table.specs.Rules.{exit_rule, row_rule, wired_line_rules, some_live, live_finished, shape_check, table_check_on}
-use Rattle.table.specs.Fresh.{fresh_byte, fresh_table}
 use Rattle.saved.specs.Bytes.{bytes_value, bytes_of, concat_of}
 use Rattle.saved.specs.Fields.{field_bytes, fields_up_to, fields, runs_past, fields_of, tagged}
 use Rattle.saved.specs.Plant.{size_in, tally_rounds, tally_tests, size_and_tally, plant_check, of_station, all_fit, lines_right, table_in}
@@ -17,25 +11,25 @@ use Rattle.saved.specs.Edition1.{cell as old_cell, row_rule as old_row_rule, lin
 use Rattle.saved.specs.Edition1.{rules_check, converted_line, line_of as old_line_of, converted_table}
 use Rattle.saved.specs.Convert.{all_known, old_check, old_lines_check, converted, convert_check}
 use Rattle.saved.specs.Examples.{two_boards, examples, all_hold, old_examples, all_old_hold, TwoBoards, ExamplesHold, Conversions, OldExamplesHold}
+use Rattle.plant.proofs.WholeRun.{whole_run}
 
 pub two-boards : TwoBoards
-unfolding list_of table_length line_start fresh_byte fresh_table bytes_of concat_of field_bytes line_of front_fields saved_lines saved two_boards
+unfolding whole_run bytes_of concat_of field_bytes line_of front_fields saved_lines saved two_boards
 two-boards = refl
 
 pub examples-hold : ExamplesHold
-unfolding every list_of least is_size level dimension distances table_length line_start cell exit_rule row_rule wired_line_rules end_distance some_live live_finished
-    shape_check table_check_on bytes_value bytes_of concat_of fields_up_to fields runs_past fields_of tagged size_in
-    size_and_tally plant_check of_station all_fit lines_right table_in in_order order_check size_check rest_check load_check two_boards examples all_hold
+unfolding whole_run bytes_value bytes_of concat_of fields_up_to fields runs_past fields_of tagged size_in size_and_tally plant_check of_station
+    all_fit lines_right table_in in_order order_check size_check rest_check load_check two_boards examples all_hold
 examples-hold = refl
 
 pub conversions : Conversions
-unfolding line_start bytes_value bytes_of concat_of field_bytes fields_up_to fields fields_of tagged size_in tally_rounds tally_tests of_station
+unfolding whole_run bytes_value bytes_of concat_of field_bytes fields_up_to fields fields_of tagged size_in tally_rounds tally_tests of_station
     table_in line_of front_fields saved_lines saved converted_line old_line_of converted_table converted two_boards
 conversions = (refl, refl, refl)
 
 pub old-examples-hold : OldExamplesHold
-unfolding every list_of least is_size level dimension distances end_distance line_start bytes_value bytes_of concat_of field_bytes fields_up_to fields runs_past
-    fields_of tagged size_in tally_rounds tally_tests size_and_tally plant_check of_station all_fit lines_right table_in
-    line_of front_fields saved_lines saved old_cell old_row_rule old_line_rules old_round_over rules_check converted_line old_line_of converted_table
-    all_known old_check old_lines_check converted convert_check two_boards old_examples all_old_hold
+unfolding whole_run bytes_value bytes_of concat_of field_bytes fields_up_to fields runs_past fields_of tagged size_in tally_rounds tally_tests
+    size_and_tally plant_check of_station all_fit lines_right table_in line_of front_fields saved_lines saved old_cell old_row_rule old_line_rules
+    old_round_over rules_check converted_line old_line_of converted_table all_known old_check old_lines_check converted convert_check two_boards
+    old_examples all_old_hold
 old-examples-hold = refl

@@ -37,7 +37,7 @@ two_bytes b c hb hc = bytes-number (b ∷ c ∷ []) small
     small : (k : ℕ) → k < 2 → get_or (b ∷ c ∷ []) k 0 < 256
     small zero h = hb
     small (suc zero) h = hc
-    small (suc (suc k)) h = absurd (omega arith)
+    small (suc (suc k)) h = omega arith
 
 -- a file is the bytes of its first field and the rest
 first-bytes : (file : List ℕ) → AreBytes file → extent file ≤ length file → field_bytes (first file) ++ drop (extent file) file ≡ file
@@ -65,7 +65,7 @@ module _ (file : List ℕ) (some_byte : 0 < length file) (fs : List Field) (e : 
   within : extent file ≤ length file
   within =
       by_cases (dec_lt (length file) (extent file))
-      (λ h. let z : ◌≡◌ {A = ℕ} 0 1 = cc (fields-cut file some_byte h) in omega arith) (λ h. omega arith)
+      (λ h. cc (fields-cut file some_byte h)) (λ h. omega arith)
 
   opened : infront (first file) (fields (drop (extent file) file)) ≡ Some fs
   opened = sym (fields-cons file some_byte within) ∙ e
@@ -73,7 +73,7 @@ module _ (file : List ℕ) (some_byte : 0 < length file) (fs : List Field) (e : 
 pub bytes-of-fields : BytesOfFields
 unfolding fields_bytes
 bytes-of-fields [] [] bytes e = (refl, λ f m. absurd (Memᴰ.not-nil m))
-bytes-of-fields [] (f ∷ fs) bytes e = let z : ◌≡◌ {A = ℕ} 0 1 = cc fields-nil in absurd (omega arith)
+bytes-of-fields [] (f ∷ fs) bytes e = cc fields-nil
 bytes-of-fields (b ∷ l) [] bytes e =
     let z = infront-nil (first (b ∷ l)) (fields (drop (extent (b ∷ l)) (b ∷ l))) (opened (b ∷ l) (omega arith) [] e) in absurd (omega arith)
 bytes-of-fields (b ∷ l) (f ∷ fs) bytes e =

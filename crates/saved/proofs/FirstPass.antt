@@ -154,9 +154,9 @@ tests_read c e = bytes_four _ _ _ _ ∙ ap (λ l. bytes_value (drop 4 l)) (sym (
 
 pub size_read : (c : List ℕ) → length c ≡ 1 → get_or c 0 0 ≡ bytes_value c
 unfolding bytes_value
-size_read [] e = absurd (omega arith)
+size_read [] e = omega arith
 size_read (x ∷ []) e = omega arith
-size_read (x ∷ y ∷ c) e = absurd (omega arith)
+size_read (x ∷ y ∷ c) e = omega arith
 
 -- a line field says nothing of size and tally
 pub pass_line : (found : Result Found Refusal) (f : Field) (fs rest : List Field)

@@ -49,7 +49,7 @@ module _ (n : ℕ) (t : List ℕ) (long : length t ≡ table_length n) where
 
       below : Dec (k < n) → k < n
       below (yes h) = h
-      below (no h) = let q : k ≡ n = omega arith in let z : length rest ≡ n * stride n - n * stride n = rw q at left-long in absurd (omega arith)
+      below (no h) = let q : k ≡ n = omega arith in let z : length rest ≡ n * stride n - n * stride n = rw q at left-long in omega arith
 
       whole : length line ≡ stride n
       whole = omega (arith, left-long, suc-mul k (stride n), mul-le-mul_right {m = suc k} {n = n} (stride n) (below (dec_lt k n)))
@@ -66,7 +66,7 @@ module _ (n : ℕ) (t : List ℕ) (long : length t ≡ table_length n) where
   lines_end k rest m e f = pick (dec_lt k n)
     where
       pick : Dec (k < n) → k ≡ n
-      pick (yes h) = absurd (omega (arith, line-inside n k h, length-drop (line_start n k) t, ap length e))
+      pick (yes h) = omega (arith, line-inside n k h, length-drop (line_start n k) t, ap length e)
       pick (no h) = omega arith
 
 -- the fields of the first k lines behind the opening, as a loop writes them

@@ -15,13 +15,13 @@ use Rattle.saved.specs.Plant.{station_in, line_in, of_station, all_fit, lines_ri
 
 -- one that is the only one
 pub only_one-length : (len : ℕ) (cs : List (List ℕ)) → only_one len cs ≡ true → length (only_contents cs) ≡ len
-only_one-length len [] e = absurd (let z : ◌≡◌ {A = ℕ} 0 1 = cc in omega arith)
+only_one-length len [] e = cc
 only_one-length len (c ∷ []) e = eqb-true (length c) len e
-only_one-length len (c ∷ d ∷ cs) e = absurd (let z : ◌≡◌ {A = ℕ} 0 1 = cc in omega arith)
+only_one-length len (c ∷ d ∷ cs) e = cc
 
 pub only_one-station : (i len : ℕ) (cs : List (List ℕ)) → only_one len (of_station i cs) ≡ true → station_in (only_contents (of_station i cs)) ≡ i
 unfolding of_station
-only_one-station i len [] e = absurd (let z : ◌≡◌ {A = ℕ} 0 1 = cc in omega arith)
+only_one-station i len [] e = cc
 only_one-station i len (c ∷ cs) e =
     by_bool (eqb (station_in c) i) (λ q. rw q (eqb-true (station_in c) i q)) (λ q. rw q (only_one-station i len cs (rw q at e)))
 

@@ -45,7 +45,7 @@ unfolding runs_past fields_of
 fields-some file w = go (fields file) w
   where
     go : (o : Option (List Field)) → is_none o ≡ false → o ≡ Some (unwrap_or o [])
-    go None e = absurd (let z : ◌≡◌ {A = ℕ} 0 1 = cc in omega arith)
+    go None e = cc
     go (Some fs) e = refl
 
 -- parts of a list of bytes
@@ -194,12 +194,12 @@ rising-later (c ∷ cs) m e z =
 -- one alone: there is no other, and it is the list
 only_one-rest : (len : ℕ) (c : List ℕ) (cs : List (List ℕ)) → only_one len (c ∷ cs) ≡ true → cs ≡ []
 only_one-rest len c [] e = refl
-only_one-rest len c (d ∷ cs) e = absurd (let z : ◌≡◌ {A = ℕ} 0 1 = cc in omega arith)
+only_one-rest len c (d ∷ cs) e = cc
 
 only_one-list : (len : ℕ) (cs : List (List ℕ)) → only_one len cs ≡ true → cs ≡ only_contents cs ∷ []
-only_one-list len [] e = absurd (let z : ◌≡◌ {A = ℕ} 0 1 = cc in omega arith)
+only_one-list len [] e = cc
 only_one-list len (c ∷ []) e = refl
-only_one-list len (c ∷ d ∷ cs) e = absurd (let z : ◌≡◌ {A = ℕ} 0 1 = cc in omega arith)
+only_one-list len (c ∷ d ∷ cs) e = cc
 
 -- rising lines, one for each station: those of the stations from m on behind those below it
 module _ (len n : ℕ) (g : ℕ → List ℕ) where
@@ -213,7 +213,7 @@ module _ (len n : ℕ) (g : ℕ → List ℕ) where
   rising-lines [] m h r f one same = pick (dec_lt m n)
     where
       pick : Dec (m < n) → concat_of its_field m ++ [] ≡ concat_of its_field n
-      pick (yes b) = absurd (let o : false ≡ true = one m (omega arith) b in let z : ◌≡◌ {A = ℕ} 0 1 = cc in omega arith)
+      pick (yes b) = cc (one m (omega arith) b)
       pick (no b) = let e : m ≡ n = omega arith in append-nil (concat_of its_field m) ∙ ap (concat_of its_field) e
   rising-lines (c ∷ cs) m h r f one same = by_cases (ℕ_discrete (station_in c) m) (here (rising-lines cs (suc m))) there
     where
@@ -231,7 +231,7 @@ module _ (len n : ℕ) (g : ℕ → List ℕ) where
           let l = leb-true m (station_in c) p.0 in
           let z : of_station m cs ≡ [] = rising-skips cs (station_in c) m (omega arith) p.1 in
           let o : false ≡ true = rw (ne_eqb (station_in c) m d, z) at (one m (omega arith) (omega (arith, low))) in
-          absurd (let z : ◌≡◌ {A = ℕ} 0 1 = cc in omega arith)
+          cc
 
       here : (suc m ≤ n → rising (suc m) cs ≡ true → all_fit len n cs ≡ true
           → ((i : ℕ) → suc m ≤ i → i < n → only_one len (of_station i cs) ≡ true)
@@ -343,7 +343,7 @@ module _ (file : List ℕ) (o : Opened file) where
   split = go (fields_of file) o.starts
     where
       go : (fs : List Field) → opens fs ≡ true → fs ≡ opening ∷ after_opening fs
-      go [] e = absurd (let z : ◌≡◌ {A = ℕ} 0 1 = cc in omega arith)
+      go [] e = cc
       go (f ∷ fs) e = ap {B = List Field} (λ g. g ∷ fs) (opening-is f e)
 
   -- the opening has none of the three tags

@@ -2,12 +2,12 @@
 -- Assumes nothing.
 use mathlib.Core.Path.{◌≡◌, refl, sym, ap, ◌∙◌}
 use mathlib.Core.Logic.{by_cases}
-use mathlib.Core.Bool.{Bool, true, false, cond, not, ◌&&◌, and-false}
+use mathlib.Core.Bool.{Bool, true, false, cond, ◌&&◌, and-false}
 use mathlib.Core.List.{List, [], ◌∷◌}
 use Prim.Native.Nat.{ℕ, suc, ◌+◌, ◌≤◌, ◌<◌}
 use native.Mathlib.Decide.{ℕ_discrete}
 use native.Mathlib.Omega.{arith}
-use borrow.Author.Tests.{eqb-true, eq-eqb, ne_eqb, ltb-true, not-true}
+use borrow.Author.Tests.{eqb-true, eq-eqb, ne_eqb, ltb-true, not-true, not-false}
 use lib.ListN.{length, get_or, set, take, drop, length-append, length-drop}
 use lib.Seq.{sets, length-take-le, get_or-take, get_or-set_same, get_or-set_other}
 use lib.Dec.{eqb}
@@ -101,10 +101,7 @@ passed_not e n c all cs t seen p q = sym p.right ∙ by_bool (fits len n c) fitt
 
     fitting : fits len n c ≡ true → right_left len n seen (c ∷ cs) ≡ false
     fitting f =
-        let z : not (get_or seen (station_in c) false) ≡ false = rw f at q in
-        let y : get_or seen (station_in c) false ≡ true =
-        by_bool (get_or seen (station_in c) false) (λ x. x)
-        (λ x. absurd (let w : true ≡ false = rw x at z in let v : ◌≡◌ {A = ℕ} 0 1 = cc in omega arith)) in
+        let y : get_or seen (station_in c) false ≡ true = not-false _ (rw f at q) in
         let l = ltb-true (station_in c) n (both (eqb (length c) len) _ f).1 in
         rw (every-not (wanted len seen (c ∷ cs)) n (station_in c) l (rw (y, eq-eqb (station_in c) (station_in c) refl)), and-false)
 

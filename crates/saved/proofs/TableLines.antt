@@ -23,7 +23,7 @@ before-written l [] a k h = refl
 before-written l (x ∷ xs) a k h = before-written (set l a x) xs (suc a) k (omega arith) ∙ get_or-set_other l a k x 0 (λ e. omega arith)
 
 in-written : (l xs : List ℕ) (a j : ℕ) → j < length xs → a + length xs ≤ length l → get_or (sets l a xs) (a + j) 0 ≡ get_or xs j 0
-in-written l [] a j h m = absurd (omega arith)
+in-written l [] a j h m = omega arith
 in-written l (x ∷ xs) a zero h m =
     rw add-zero (before-written (set l a x) xs (suc a) a (omega arith) ∙ get_or-set_same l a x 0 (omega arith))
 in-written l (x ∷ xs) a (suc j) h m =

@@ -33,3 +33,5 @@ module _ (s input : List ℕ) (room : length s ≡ 8192) where
     words_err =
         let a = answer-err input (read_input input) u (sym (rw (read-whole s input room) at e)) in
         rw (a.unread, ← a.line) (ap fault_words (sym a.fault))
+
+pub ruleset input_laws = (entries_written, read_ok, words_ok, read_err, words_err)

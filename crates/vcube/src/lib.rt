@@ -32,7 +32,8 @@ ghost use Rattle.input.specs.Input.{read_input};
 ghost use Rattle.vcube.specs.WordsFit.{InputWordsFit};
 ghost use Rattle.vcube.specs.Exports.{schedule_length, words_length, worded, words_of_input, input_check, input_out, input_figures, schedule_after};
 ghost use Rattle.vcube.specs.Exports.{input_words_after};
-ghost use Rattle.vcube.specs.Exports.{slot_out, slot_figures, wait_out, wait_figures, words_check, words_after, words_of_refusal, words_of_status, words_of_outcome};
+ghost use Rattle.vcube.specs.Exports.{slot_out, slot_figures, wait_out, wait_figures};
+ghost use Rattle.vcube.specs.Exports.{words_check, words_after, words_of_refusal, words_of_status, words_of_outcome};
 ghost use Rattle.vcube.specs.Exports.{version_number};
 ghost use Rattle.vcube.specs.Exports.{totals_members, totals_with, figures_out, totals_out};
 
@@ -40,12 +41,12 @@ pub mod boards;
 pub mod claims;
 
 use figures::{Figures, Totals, adding, batch};
-use granter::grant;
+use granter::{drive, grant};
 use input::reading::{self, Parsed};
 use latency::wait::{self, Wait};
 use lists::bytes;
 use lists::refusal::{Refusal, number_of, parts};
-use plant::Tally;
+use plant::{Tally, run};
 use saved::{Loaded, convert, load, save};
 use slots::board::{self, Slot};
 use station::outcome::Outcome;
@@ -172,7 +173,7 @@ pub extern "C" fn vcube_run(
         rounds: *rounds,
         tests: *tests,
     };
-    let ran = accuracy::run_in_list(wiring, n, table, tally, schedule, sheet);
+    let ran = run::run(wiring, n, table, tally, schedule, sheet);
     *rounds = ran.tally.rounds;
     *tests = ran.tally.tests;
     *taken = ran.taken;
@@ -222,7 +223,7 @@ pub extern "C" fn vcube_drive(
         rounds: *rounds,
         tests: *tests,
     };
-    let driven = accuracy::drive_in_list(wiring, n, table, tally, *last);
+    let driven = drive::drive(wiring, n, table, tally, *last);
     *rounds = driven.tally.rounds;
     *tests = driven.tally.tests;
     *last = driven.last;
@@ -537,7 +538,7 @@ fn check_input(schedule: usize, words: usize) -> Result<(), Refusal>
 }
 
 // Reads an input into a schedule and a buffer of the right lengths: what was read, and the number of the first unreadable line, 0 where all can be.
-#[tactic(auto, using(crate::proofs::InputLaws::entries_written, crate::proofs::InputLaws::read_ok, crate::proofs::InputLaws::words_ok, crate::proofs::InputLaws::read_err, crate::proofs::InputLaws::words_err))]
+#[tactic(auto, using(crate::proofs::InputLaws::input_laws))]
 fn read_input(input: &[u8], schedule: &mut [u8], words: &mut [u8]) -> (Parsed, usize)
     requires schedule { length schedule.old ≡ schedule_length }
     requires words { length words.old ≡ words_length }

@@ -2,7 +2,7 @@
 -- Assumes nothing.
 use mathlib.Core.Path.{◌≡◌, refl, sym, ap, ◌∙◌}
 use mathlib.Core.Logic.{◌≢◌, by_cases}
-use mathlib.Core.Bool.{Bool, true, false, not, true≢false}
+use mathlib.Core.Bool.{Bool, true, false, not}
 use mathlib.Core.List.{List, [], ◌∷◌, ◌++◌}
 use Prim.Native.Nat.{ℕ, zero, suc, ◌+◌, ◌-◌, ◌*◌, ◌≤◌, ◌<◌}
 use native.Mathlib.Decide.{dec_lt, ℕ_discrete}
@@ -59,7 +59,8 @@ module _ (n N : ℕ) (L : ℕ → Bool) (low : n ≤ N) (absent : (k : ℕ) → 
 
   -- the rounds of two such tables are over together
   over-same : (t u : List ℕ) → Same t u → (a : ℕ) → L a ≡ true → round_over N u ≡ round_over n t
-  over-same t u like a la = by_bool (round_over n t) (λ o. there o ∙ sym o) (λ o. by_bool (round_over N u) (λ p. absurd (true≢false (sym (back p) ∙ o))) (λ p. p ∙ sym o))
+  over-same t u like a la =
+      by_bool (round_over n t) (λ o. there o ∙ sym o) (λ o. by_bool (round_over N u) (λ p. cc (back p)) (λ p. p ∙ sym o))
     where
       there : round_over n t ≡ true → round_over N u ≡ true
       there =
@@ -277,7 +278,8 @@ module _ (n N : ℕ) (L : ℕ → Bool) (low : n ≤ N) (absent : (k : ℕ) → 
       pub alike : Alike (after wiring_cube n s e) end
       pub tests : end.tests ≤ w.tests + room
 
-    last_turn : (w : State) (b : Ahead w) (fits : w.tests < tally_top) (room : ℕ) → 1 ≤ room → Alike (after wiring_cube n s e) (after wiring_cube N w e) → Played w room
+    last_turn : (w : State) (b : Ahead w) (fits : w.tests < tally_top) (room : ℕ) → 1 ≤ room
+        → Alike (after wiring_cube n s e) (after wiring_cube N w e) → Played w room
     last_turn w b fits room some alike = record {
       turns = i ∷ [];
       end = after wiring_cube N w e;
@@ -300,7 +302,9 @@ module _ (n N : ℕ) (L : ℕ → Bool) (low : n ≤ N) (absent : (k : ℕ) → 
         (λ out.
         let grown = tests-after w b (omega arith) in
         let next = further-next w b (omega arith) E out in
-        let rest = play fuel (after wiring_cube N w e) (further w b (omega arith) E out) (omega (arith, next, next_test-low wiring_cube N w.table i)) (omega (arith, grown)) in
+        let rest =
+        play fuel (after wiring_cube N w e) (further w b (omega arith) E out) (omega (arith, next, next_test-low wiring_cube N w.table i))
+        (omega (arith, grown)) in
         record {
           turns = i ∷ rest.turns;
           end = rest.end;
@@ -317,7 +321,8 @@ module _ (n N : ℕ) (L : ℕ → Bool) (low : n ≤ N) (absent : (k : ℕ) → 
     pub goes : Goes wiring_cube N w turns left
     pub alike : Alike end left
 
-  pub follow : {s end : State} {is : List ℕ} → Goes wiring_cube n s is end → (w : State) → Alike s w → w.tests + 66 * length is < tally_top → Follows w end
+  pub follow : {s end : State} {is : List ℕ} → Goes wiring_cube n s is end → (w : State) → Alike s w → w.tests + 66 * length is < tally_top
+      → Follows w end
   follow {s} stop w a fits = record { turns = []; left = w; goes = stop; alike = a }
   follow {s} {end} (go {is = is} i z g) w a fits =
       let facts = entry-facts n s (entry_of kind_turn i) z in

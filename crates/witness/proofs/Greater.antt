@@ -4,27 +4,25 @@
 use mathlib.Core.Path.{◌≡◌, refl, sym, ap, ◌∙◌}
 use mathlib.Core.Bool.{Bool, true, false, cond, not, ◌&&◌}
 use mathlib.Core.List.{List, []}
-use Prim.Native.Nat.{ℕ, suc, ◌+◌, ◌-◌, ◌*◌, ◌/◌, ◌%◌, ◌^◌, ◌≤◌, ◌<◌}
-use native.Mathlib.Nat.{mod-eq_of_lt, mul-add-mod_self_right, div-eq_of_lt, add-mul-div_right, add_comm}
+use Prim.Native.Nat.{ℕ, suc, ◌+◌, ◌-◌, ◌^◌, ◌≤◌, ◌<◌}
 use native.Mathlib.Omega.{arith}
 use borrow.Author.Tests.{eqb-true, lt-ltb, le-ltb, ltb-true}
 use lib.ListN.{length}
 use lib.Dec.{eqb, ltb}
-use Rattle.lists.specs.Search.{list_of}
 use Rattle.lists.specs.Sums.{sum_below, bit}
 use Rattle.lists.proofs.BoolLaws.{by_bool}
-use Rattle.lists.proofs.SearchLaws.{both, every-at, every-all, list_of-length, list_of-at}
+use Rattle.lists.proofs.SearchLaws.{both, every-at, every-all}
 use Rattle.lists.proofs.SumLaws.{sum_by, sum-stays}
 use Rattle.table.specs.Sizes.{is_size, dimension, distances}
-use Rattle.table.specs.Wiring.{wiring_cube, end_distance}
-use Rattle.table.specs.Table.{head, stride, table_length, line_start, cell, status_column, next_column, finished_column, tests_column, told_by_column, rounds_ago_column, status, status_told, next_distance, finished, tests_made, told_by, told_by_none, not_recorded, rounds_ago, suspects, live}
-use Rattle.table.specs.Rules.{exit_rule, wired_line_rules}
+use Rattle.table.specs.Wiring.{wiring_cube}
+use Rattle.table.specs.Table.{head, stride, cell, status_column, next_column}
+use Rattle.table.specs.Table.{told_by_column, rounds_ago_column, status, status_told, next_distance, finished, told_by, told_by_none}
+use Rattle.table.specs.Table.{not_recorded, rounds_ago, suspects, live}
+use Rattle.table.specs.Rules.{exit_rule}
 use Rattle.table.specs.Properties.{line_at_start, at_start, live_count, no_live_suspicion, none_suspected}
 use Rattle.table.proofs.Accepting.{Accepted, accepted}
-use Rattle.table.proofs.CellLaws.{line-inside, Line, line-holds, accepted-line}
-use Rattle.table.proofs.SizeLaws.{distances-pos}
+use Rattle.table.proofs.CellLaws.{Line, accepted-line}
 use Rattle.plant.specs.Entry.{State, state_of}
-use Rattle.plant.proofs.RulesKept.{unfinished-open}
 use Rattle.plant.proofs.RunLaws.{accepted-number}
 use Rattle.detection.specs.Runs.{taken_all}
 use Rattle.detection.specs.Rounds.{all_taken}
@@ -32,23 +30,9 @@ use Rattle.detection.specs.Claim.{DetectionPremises, worst_latency}
 use Rattle.detection.proofs.TurnEffect.{Company}
 use Rattle.detection.proofs.DetectionClaim.{trusts, company-of}
 use Rattle.witness.proofs.Slow.{Slow}
+use Rattle.witness.proofs.Beginning.{table_by, by-cell, Begun, begun-by, begun-pass, begun-start, begun-accepted}
 use Rattle.witness.proofs.Moves.{Like}
 use Rattle.witness.proofs.Follow.{Alike, follow}
-
--- a table by its bytes: line and column
-abbrev pub table_by : ℕ → (ℕ → ℕ → ℕ) → List ℕ
-table_by n f = list_of (λ p. f (p / stride n) (p % stride n)) (table_length n)
-
-pub by-cell : (n : ℕ) (f : ℕ → ℕ → ℕ) (i c : ℕ) → i < n → c < stride n → cell n (table_by n f) i c ≡ f i c
-unfolding cell line_start
-by-cell n f i c h g =
-    list_of-at (λ p. f (p / stride n) (p % stride n)) (table_length n) (i * stride n + c) (omega (arith, line-inside n i h)) ∙ rw (line, column)
-  where
-    column : (i * stride n + c) % stride n ≡ c
-    column = mul-add-mod_self_right i (stride n) c ∙ mod-eq_of_lt g
-
-    line : (i * stride n + c) / stride n ≡ i
-    line = rw (add_comm (i * stride n) c) (omega (arith, add-mul-div_right c i {z = stride n} (omega arith), div-eq_of_lt g))
 
 -- the rule of bytes 4 and 5 with more stations
 wider-exit : (n N i s told ago : ℕ) → n ≤ N → exit_rule n i s told ago ≡ true → exit_rule N i s told ago ≡ true
@@ -78,7 +62,8 @@ module _ (n N : ℕ) (p : Slow wiring_cube n) (Size : is_size N ≡ true) (low :
   -- bytes 4 and 5 as they are, with 255 and 0 from n on
   abbrev exit_byte : ℕ → ℕ → ℕ
   exit_byte i c =
-      cond (eqb c told_by_column) (cond (ltb i n) (told_by n t i) told_by_none) (cond (eqb c rounds_ago_column) (cond (ltb i n) (rounds_ago n t i) 0) 0)
+      cond (eqb c told_by_column) (cond (ltb i n) (told_by n t i) told_by_none)
+      (cond (eqb c rounds_ago_column) (cond (ltb i n) (rounds_ago n t i) 0) 0)
 
   abbrev byte : ℕ → ℕ → ℕ
   byte i c =
@@ -99,14 +84,8 @@ module _ (n N : ℕ) (p : Slow wiring_cube n) (Size : is_size N ≡ true) (low :
   status-of : (i : ℕ) → i < N → status N u i ≡ cond (ltb i n) (status n t i) 1
   status-of i h = at i status_column h (omega arith)
 
-  next_of : (i : ℕ) → i < N → next_distance N u i ≡ 1
-  next_of i h = at i next_column h (omega arith)
-
-  finished-of : (i : ℕ) → i < N → finished N u i ≡ 0
-  finished-of i h = at i finished_column h (omega arith)
-
-  tests-of : (i : ℕ) → i < N → tests_made N u i ≡ 0
-  tests-of i h = at i tests_column h (omega arith)
+  begun : Begun N u
+  begun = begun-by N byte (λ i. refl) (λ i. refl) (λ i. refl)
 
   exits_of : (i : ℕ) → i < N → exit_rule N i (status N u i) (told_by N u i) (rounds_ago N u i) ≡ true
   unfolding exit_rule
@@ -121,11 +100,11 @@ module _ (n N : ℕ) (p : Slow wiring_cube n) (Size : is_size N ≡ true) (low :
       by_bool (ltb i n) (λ q. rw (q, status-of i h, q)) (λ q. rw (q, status-of i h, q))
 
   line_of : (i : ℕ) → i < N → Line wiring_cube N u i
-  unfolding end_distance
   line_of i h = record {
-    status_range = rw (status-of i h) (by_bool (ltb i n) (λ q. rw q (accepted-line wiring_cube n t ok i (ltb-true i n q)).status_range) (λ q. rw q (omega arith)));
-    pass = rw (next_of i h, finished-of i h, tests-of i h)
-        (record { next_low = omega arith; next_high = distances-pos N; finished_range = omega arith; tests_bound = omega arith; finished_next = λ e. absurd (omega arith) });
+    status_range =
+        rw (status-of i h) (by_bool (ltb i n) (λ q. rw q (accepted-line wiring_cube n t ok i (ltb-true i n q)).status_range)
+        (λ q. rw q (omega arith)));
+    pass = begun-pass wiring_cube N u begun i h;
     exits = exits_of i h;
     own = row_of i i h h ∙ by_bool (ltb i n) (λ q. rw q (accepted-line wiring_cube n t ok i (ltb-true i n q)).own) (λ q. rw q);
     range = λ y g. rw (row_of i y h g) (byte_small i y);
@@ -138,17 +117,8 @@ module _ (n N : ℕ) (p : Slow wiring_cube n) (Size : is_size N ≡ true) (low :
           (λ r. rw (q, r) (by_bool (live n t i) (λ l. rw l (omega arith)) (λ l. rw l (omega arith)))))
           (λ q. rw q (omega arith))
 
-  long_of : length u ≡ table_length N
-  long_of = list_of-length _ (table_length N)
-
   Ok : Accepted wiring_cube N u
-  Ok = record {
-    wired = refl;
-    size = Size;
-    long = long_of;
-    lines = every-all (wired_line_rules wiring_cube N u) N (λ i h. line-holds wiring_cube N u i (line_of i h));
-    unclosed = unfinished-open N u finished-of;
-  }
+  Ok = begun-accepted wiring_cube N u begun refl Size line_of
 
   -- the live boards
   parts : (k : ℕ) → L k ≡ true → (k < n) × (live n t k ≡ true)
@@ -180,12 +150,12 @@ module _ (n N : ℕ) (p : Slow wiring_cube n) (Size : is_size N ≡ true) (low :
       accurate = λ i j h g a b. trusts wiring_cube n t ok p.premises.accurate i j h g (parts i a).1 (parts j b).1;
     };
     big = record {
-      lines = (long_of, line_of);
+      lines = (begun.long, line_of);
       lives = live_of;
       accurate = λ i j h g a b. row_below i j a (parts j b).0
           ∙ trusts wiring_cube n t ok p.premises.accurate i j (parts i a).0 (parts j b).0 (parts i a).1 (parts j b).1;
     };
-    finish = λ k l. finished-of k (omega (arith, (parts k l).0)) ∙ sym (at-start k (parts k l).0).1;
+    finish = λ k l. begun.finish k (omega (arith, (parts k l).0)) ∙ sym (at-start k (parts k l).0).1;
     rows = row_below;
     known = λ k y l a b. row_of k y (omega (arith, (parts k l).0)) b ∙ rw (lt-ltb k n (parts k l).0, le-ltb y n a, (parts k l).1);
   }
@@ -200,7 +170,7 @@ module _ (n N : ℕ) (p : Slow wiring_cube n) (Size : is_size N ≡ true) (low :
   alike : Alike n N L low absent p.premises.size Size distances-same company p.first w
   alike = record {
     like = like;
-    next = λ k l. next_of k (omega (arith, (parts k l).0)) ∙ sym (at-start k (parts k l).0).0;
+    next = λ k l. begun.next k (omega (arith, (parts k l).0)) ∙ sym (at-start k (parts k l).0).0;
     rounds = refl;
     ok = ok;
     Ok = Ok;
@@ -212,8 +182,8 @@ module _ (n N : ℕ) (p : Slow wiring_cube n) (Size : is_size N ≡ true) (low :
   given = record {
     wiring = refl;
     size = Size;
-    long = long_of;
-    start = every-all (line_at_start N u) N (λ i h. rw (next_of i h, finished-of i h, tests-of i h));
+    long = begun.long;
+    start = begun-start wiring_cube N u begun;
     two_live = omega (arith, two, p.premises.two_live);
     accurate = every-all _ N (λ i h. every-all (no_live_suspicion N u i) N (λ j g. unsuspecting i j h g));
     one_wiring = refl;

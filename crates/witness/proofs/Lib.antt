@@ -4,6 +4,7 @@ pub mod Witness
 pub mod Moves
 pub mod Slow
 pub mod Follow
+pub mod Beginning
 pub mod Greater
 pub mod Plants
 pub mod Slowest

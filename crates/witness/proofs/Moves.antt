@@ -3,7 +3,7 @@
 -- Assumes nothing.
 use mathlib.Core.Path.{◌≡◌, refl, sym, ap, ◌∙◌}
 use mathlib.Core.Logic.{◌≢◌, by_cases}
-use mathlib.Core.Bool.{Bool, true, false, cond, not, ◌&&◌, ◌||◌, true≢false}
+use mathlib.Core.Bool.{Bool, true, false, cond, not, ◌&&◌, ◌||◌}
 use mathlib.Core.List.{List}
 use Prim.Native.Nat.{ℕ, ◌+◌, max, ◌≤◌, ◌<◌}
 use native.Mathlib.Decide.{dec_lt, ℕ_discrete}
@@ -21,10 +21,12 @@ use Rattle.station.specs.Groups.{station_at}
 use Rattle.station.specs.Wired.{wired_station}
 use Rattle.station.specs.Tests.{unsuspected, due}
 use Rattle.station.proofs.DueLaws.{unsuspected-at, unsuspected-absent, due-first, due-absent}
-use Rattle.plant.specs.Turn.{kind_turn, next_test, makes_test, count_test, exchange_rows, suspect, after_outcome, after_test, outcome_at, testing, turn}
+use Rattle.plant.specs.Turn.{kind_turn, next_test, makes_test, count_test, exchange_rows, suspect, after_outcome, after_test, outcome_at, testing}
+use Rattle.plant.specs.Turn.{turn}
 use Rattle.station.specs.Outcome.{outcome_exchanged, outcome_no_reply}
 use Rattle.station.specs.Wired.{next_after}
-use Rattle.plant.proofs.StepCells.{finish_pass-other, count_test-other, count_test-length, suspect-same, suspect-other, exchange-other, exchange-tester, exchange-tested, exchange-tester-own, exchange-tested-own}
+use Rattle.plant.proofs.StepCells.{finish_pass-other, count_test-other, count_test-length, suspect-same, suspect-other, exchange-other}
+use Rattle.plant.proofs.StepCells.{exchange-tester, exchange-tested, exchange-tester-own, exchange-tested-own}
 use Rattle.station.proofs.WiredLaws.{station-apart}
 use Rattle.plant.proofs.StepLines.{count_test-lines}
 use Rattle.plant.proofs.NextTest.{next_test-low, test_below, test-station}
@@ -77,7 +79,8 @@ module _ (w n : ℕ) (L : ℕ → Bool) (t : List ℕ) (i : ℕ) (size : is_size
     plain₁ =
         let lines₁ =
         count_test-lines w n t i p.lines hi m o (omega (arith, going)) (next_test-low w n t i) (test_below w n t i e) in
-        (same_rows w n L t t₁ lines₁ (λ k c h counts _. count_test-other n t i w m o k c h (λ _. (λ e. counts (omega arith), λ e. counts (omega arith)))) p).0
+        (same_rows w n L t t₁ lines₁
+        (λ k c h counts _. count_test-other n t i w m o k c h (λ _. (λ e. counts (omega arith), λ e. counts (omega arith)))) p).0
 
     -- what the turn does to the rows
     after-is : after_outcome n t₁ i x o ≡ cond (L x) (exchange_rows n t₁ i x) (suspect n t₁ i x)
@@ -124,7 +127,7 @@ module _ (w n : ℕ) (L : ℕ → Bool) (t : List ℕ) (i : ℕ) (size : is_size
 -- the two plants: the same levels, the same live boards, all below n
 module _ (n N : ℕ) (L : ℕ → Bool) (low : n ≤ N) (absent : (k : ℕ) → n ≤ k → L k ≡ false) where
   pub live_below : (k : ℕ) → L k ≡ true → k < n
-  live_below k l = by_cases (dec_lt k n) (λ h. h) (λ h. absurd (true≢false (sym l ∙ absent k (omega arith))))
+  live_below k l = by_cases (dec_lt k n) (λ h. h) (λ h. cc (absent k (omega arith)))
 
   -- the live boards of u know what those of t know, and that the boards from n on are dead
   pub record Like (t u : List ℕ) : Type 0 where
@@ -163,7 +166,8 @@ module _ (n N : ℕ) (L : ℕ → Bool) (low : n ≤ N) (absent : (k : ℕ) → 
     pub due-same : (m : ℕ) → station_at i m < n → due (row N u i) i m ≡ due (row n t i) i m
     due-same m h =
         due-first (row N u i) i m
-        ∙ (rw (long, Long, lt-ltb (station_at i m) n h, lt-ltb (station_at i m) N (omega arith)) (leads-same (unsuspected (row N u i)) (unsuspected (row n t i)) i m (λ k l. same_row _))
+        ∙ (rw (long, Long, lt-ltb (station_at i m) n h, lt-ltb (station_at i m) N (omega arith))
+        (leads-same (unsuspected (row N u i)) (unsuspected (row n t i)) i m (λ k l. same_row _))
         ∙ sym (due-first (row n t i) i m))
 
     pub due-none : (m : ℕ) → ¬ (station_at i m < n) → due (row n t i) i m ≡ false
@@ -255,7 +259,8 @@ module _ (n N : ℕ) (L : ℕ → Bool) (low : n ≤ N) (absent : (k : ℕ) → 
         finish-next = rw E at Heads-of.next ∙ (sym levels ∙ sym (rw e at heads.next))
 
       -- both test the same board
-      module _ (e : makes_test wiring_cube n t i ≡ true) (E : makes_test wiring_cube N u i ≡ true) (same : next_test wiring_cube N u i ≡ next_test wiring_cube n t i) where
+      module _ (e : makes_test wiring_cube n t i ≡ true) (E : makes_test wiring_cube N u i ≡ true)
+          (same : next_test wiring_cube N u i ≡ next_test wiring_cube n t i) where
         abbrev w : ℕ
         w = station_at i (next_test wiring_cube n t i)
 
@@ -282,7 +287,8 @@ module _ (n N : ℕ) (L : ℕ → Bool) (low : n ≤ N) (absent : (k : ℕ) → 
           finish = λ k l. by_cases (ℕ_discrete k i) (λ q. rw q (rw E at Heads-of.finish ∙ (like.finish i li ∙ sym (rw e at heads.finish))))
               (λ q. Heads-of.others k finished_column q (omega arith) ∙ (like.finish k l ∙ sym (heads.others k finished_column q (omega arith))));
           rows = λ k y l b.
-              Bytes k y l (omega arith) ∙ (alike k y l b ∙ sym (test-bytes wiring_cube n L t i size like.small company h li going e k y (live_below k l) b));
+              Bytes k y l (omega arith) ∙
+              (alike k y l b ∙ sym (test-bytes wiring_cube n L t i size like.small company h li going e k y (live_below k l) b));
           known = λ k y l a b. Bytes k y l b ∙ stays k y l a b;
         }
 

@@ -1,7 +1,7 @@
 -- Plants that compute: turns that are all taken, checked by computing, whole or round by round.
 -- Assumes nothing.
 use mathlib.Core.Path.{◌≡◌, refl, sym, subst, ◌∙◌}
-use mathlib.Core.Bool.{Bool, true, false, cond, ◌&&◌, true≢false}
+use mathlib.Core.Bool.{Bool, true, false, cond, ◌&&◌}
 use mathlib.Core.List.{List, [], ◌∷◌, ◌++◌}
 use Prim.Native.Nat.{ℕ, suc, ◌+◌, ◌≤◌}
 use native.Mathlib.Nat.{zero-add}
@@ -51,7 +51,7 @@ arrival n s (i ∷ is) q e =
     (λ z.
     let rest = arrival n (after wiring_cube n s (entry_of kind_turn i)) is q (rw z at e) in
     record { left = rest.left; goes = go i (eqb-true _ 0 z) rest.goes; passes = rest.passes })
-    (λ z. absurd (true≢false (sym (rw z at e))))
+    (λ z. cc (rw z at e))
 
 -- the table is one of those that the claim describes, and refusals let it through
 abbrev described : ℕ → State → Bool
@@ -134,8 +134,8 @@ same_list (x ∷ xs) (y ∷ ys) = eqb x y && same_list xs ys
 lists-same : (a b : List ℕ) → same_list a b ≡ true → a ≡ b
 unfolding same_list
 lists-same [] [] e = refl
-lists-same [] (y ∷ ys) e = absurd (true≢false (sym e))
-lists-same (x ∷ xs) [] e = absurd (true≢false (sym e))
+lists-same [] (y ∷ ys) e = cc
+lists-same (x ∷ xs) [] e = cc
 lists-same (x ∷ xs) (y ∷ ys) e =
     let parts = both (eqb x y) (same_list xs ys) e in
     rw (eqb-true x y parts.0, lists-same xs ys parts.1)

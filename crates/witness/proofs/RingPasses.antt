@@ -250,7 +250,7 @@ module _ (n : ℕ) (size : is_size n ≡ true) (three : 3 ≤ n) where
           → Reached n (During n f' q' U r (suc c)) s
       ends f' q' z hz lz apart waits same own-finish =
           left z hz lz (heads.others z finished_column apart (omega arith) ∙ (d.finishes z hz lz ∙ waits)) f' q' U same (ended ∙ sym own-finish)
-          (λ y. absurd (omega (arith, own-finish))) (λ k a b u. rows k ∙ d.unseen k a b u)
+          (λ y. omega (arith, own-finish)) (λ k a b u. rows k ∙ d.unseen k a b u)
 
       -- as the last one: the round closes
       module _ (last : (k : ℕ) → 0 < k → k < n → k ≢ i → f k ≡ 1) where

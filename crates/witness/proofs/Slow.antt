@@ -94,5 +94,6 @@ slow-worst-case w n p enough exact = by_cases (dec_lt enough (worst_rounds w n))
     early l =
         let end = goes-runs p.goes (accepted w n p.first.table p.ok) in
         let tally = rw end at (detection-in-worst-case w n p.first calls given).rounds_tally in
-        let known = rw end at (exact p.first calls given (omega (arith, tally, p.rounds)) p.board p.missed p.board_below p.missed_below p.board_live) in
+        let known =
+        rw end at (exact p.first calls given (omega (arith, tally, p.rounds)) p.board p.missed p.board_below p.missed_below p.board_live) in
         omega (arith, known, p.unseen, ap bit p.missed_dead)

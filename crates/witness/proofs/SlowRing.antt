@@ -10,29 +10,27 @@ use native.Mathlib.Nat.{mod-eq_of_lt}
 use native.Mathlib.Omega.{arith}
 use borrow.Author.Tests.{eq-eqb, ne_eqb}
 use lib.Dec.{eqb}
-use lib.ListN.{length}
 use Rattle.lists.specs.Sums.{sum_below, bit}
 use Rattle.lists.proofs.BoolLaws.{by_bool}
-use Rattle.lists.proofs.SearchLaws.{every-all, list_of-length}
+use Rattle.lists.proofs.SearchLaws.{every-all}
 use Rattle.lists.proofs.SumLaws.{sum_by, sum-not, sum-single}
 use Rattle.table.specs.Sizes.{is_size}
 use Rattle.table.specs.Wiring.{wiring_ring}
-use Rattle.table.specs.Table.{head, stride, table_length, cell, status_column, next_column, finished_column, tests_column, told_by_column, told_by_none, rounds_ago_column, status, next_distance, finished, tests_made, suspects, live}
-use Rattle.table.specs.Rules.{exit_rule, wired_line_rules, not_live}
-use Rattle.table.specs.Properties.{line_at_start, at_start, live_count, no_live_suspicion, none_suspected}
+use Rattle.table.specs.Table.{head, stride, cell, status_column, next_column, told_by_column}
+use Rattle.table.specs.Table.{told_by_none, rounds_ago_column, status, suspects, live}
+use Rattle.table.specs.Rules.{exit_rule, not_live}
+use Rattle.table.specs.Properties.{at_start, live_count, no_live_suspicion, none_suspected}
 use Rattle.table.proofs.Accepting.{Accepted}
-use Rattle.table.proofs.CellLaws.{Line, line-holds}
+use Rattle.table.proofs.CellLaws.{Line}
 use Rattle.table.proofs.SizeLaws.{size-bounds}
-use Rattle.table.proofs.WiringLaws.{end-pos}
 use Rattle.station.proofs.WiredLaws.{place_behind}
 use Rattle.plant.specs.Entry.{State, state_of}
-use Rattle.plant.proofs.RulesKept.{unfinished-open}
 use Rattle.plant.proofs.RunLaws.{accepted-number}
 use Rattle.detection.specs.Runs.{taken_all}
 use Rattle.detection.specs.Rounds.{all_taken}
 use Rattle.detection.specs.Claim.{DetectionPremises}
 use Rattle.witness.specs.WorstCase.{WorstCaseAt}
-use Rattle.witness.proofs.Greater.{table_by, by-cell}
+use Rattle.witness.proofs.Beginning.{table_by, by-cell, Begun, begun-by, begun-pass, begun-start, begun-accepted}
 use Rattle.witness.proofs.Slow.{Slow, slow-worst-case}
 use Rattle.witness.proofs.RingPasses.{others, Reached, here, onward, During, reworded, exchanges, finds, ends, closes}
 
@@ -206,14 +204,8 @@ module _ (n : ℕ) (size : is_size n ≡ true) (three : 3 ≤ n) where
   status-of : (i : ℕ) → i < n → status n t i ≡ bit (eqb i 0)
   status-of i h = at i status_column h (omega arith)
 
-  next_of : (i : ℕ) → i < n → next_distance n t i ≡ 1
-  next_of i h = at i next_column h (omega arith)
-
-  finished-of : (i : ℕ) → i < n → finished n t i ≡ 0
-  finished-of i h = at i finished_column h (omega arith)
-
-  tests-of : (i : ℕ) → i < n → tests_made n t i ≡ 0
-  tests-of i h = at i tests_column h (omega arith)
+  begun : Begun n t
+  begun = begun-by n byte (λ i. refl) (λ i. refl) (λ i. refl)
 
   row_of : (i y : ℕ) → i < n → y < n → suspects n t i y ≡ 0
   row_of i y h g =
@@ -235,24 +227,14 @@ module _ (n : ℕ) (size : is_size n ≡ true) (three : 3 ≤ n) where
   line_of : (i : ℕ) → i < n → Line wiring_ring n t i
   line_of i h = record {
     status_range = rw (status-of i h) (by_bool (eqb i 0) (λ e. rw e (omega arith)) (λ e. rw e (omega arith)));
-    pass = rw (next_of i h, finished-of i h, tests-of i h)
-        (record { next_low = omega arith; next_high = end-pos wiring_ring n i h; finished_range = omega arith; tests_bound = omega arith; finished_next = λ e. absurd (omega arith) });
+    pass = begun-pass wiring_ring n t begun i h;
     exits = exits_of i h;
     own = row_of i i h h;
     range = λ y g. omega (arith, row_of i y h g);
   }
 
-  long_of : length t ≡ table_length n
-  long_of = list_of-length _ (table_length n)
-
   ok : Accepted wiring_ring n t
-  ok = record {
-    wired = refl;
-    size = size;
-    long = long_of;
-    lines = every-all (wired_line_rules wiring_ring n t) n (λ i h. line-holds wiring_ring n t i (line_of i h));
-    unclosed = unfinished-open n t finished-of;
-  }
+  ok = begun-accepted wiring_ring n t begun refl size line_of
 
   abbrev first : State
   first = state_of t 0 0
@@ -262,8 +244,8 @@ module _ (n : ℕ) (size : is_size n ≡ true) (three : 3 ≤ n) where
   given = record {
     wiring = refl;
     size = size;
-    long = long_of;
-    start = every-all (line_at_start n t) n (λ i h. rw (next_of i h, finished-of i h, tests-of i h));
+    long = begun.long;
+    start = begun-start wiring_ring n t begun;
     two_live = omega (arith, all, sum-not (λ k. eqb k 0) n, zero-only);
     accurate = every-all _ n (λ i h. every-all (no_live_suspicion n t i) n (λ j g. rw (row_of i j h g) (unsuspecting i j)));
     one_wiring = refl;
@@ -284,9 +266,9 @@ module _ (n : ℕ) (size : is_size n ≡ true) (three : 3 ≤ n) where
   rounds : (r : ℕ) → suc r ≤ m → Reached n (During n (λ k. 0) one (Early r) r (200 * r)) first
   rounds zero h =
       here n _ first (record {
-        plain = record { lines = (long_of, line_of); lives = live_of; accurate = λ i j hi hj a b. row_of i j hi hj };
-        finishes = λ k a b. finished-of k b;
-        nexts = λ k a b g. next_of k b;
+        plain = record { lines = (begun.long, line_of); lives = live_of; accurate = λ i j hi hj a b. row_of i j hi hj };
+        finishes = λ k a b. begun.finish k b;
+        nexts = λ k a b g. begun.next k b;
         unseen = λ k a b u. row_of k 0 b (omega arith);
         closed = refl;
         count = omega arith;

@@ -11,15 +11,16 @@ use Rattle.table.proofs.SizeLaws.{size-log, size-dimension}
 use Rattle.detection.specs.Claim.{worst_latency}
 use Rattle.plant.specs.Entry.{State, state_of}
 use Rattle.table.specs.Fresh.{fresh_table}
-use Rattle.witness.proofs.Computing.{whole_run}
+use Rattle.witness.proofs.Computing.{whole_list}
 use Rattle.witness.specs.WorstCase.{WorstCaseAt}
 use Rattle.witness.proofs.Slow.{Goes, goes-append, slow-worst-case}
-use Rattle.witness.proofs.Plants.{crashed, first_state, arrives, Arrival, arrival, begins, unseen, Computed, slow-plant, marked, same_list, same_state, part, behind}
+use Rattle.witness.proofs.Plants.{crashed, first_state, arrives, Arrival, arrival, begins, unseen, Computed, slow-plant, marked, same_list}
+use Rattle.witness.proofs.Plants.{same_state, part, behind}
 use Rattle.witness.proofs.Greater.{greater}
 
 -- who unfolds this name computes whether turns arrive
 unfoldable computes : Unit {0}
-unfolding whole_run worst_latency crashed arrives begins unseen marked same_state same_list
+unfolding whole_list worst_latency crashed arrives begins unseen marked same_state same_list
 computes = tt
 
 -- the plants of samples/slowest.txt without their last round: the dead boards, a live board and a dead one that it does not suspect then, and
@@ -176,7 +177,8 @@ turns-33 = (turns-0 ++ (turns-1 ++ (turns-2 ++ (turns-3 ++ (turns-4 ++ (turns-5)
 slow-33 : Computed 33
 slow-33 =
     slow-plant 33 dead-33 21 32 begins-33 turns-33 refl
-    (behind 33 (first_state 33 dead-33) (state-33 known-6 6 182) (turns-0 ++ (turns-1 ++ (turns-2 ++ (turns-3 ++ (turns-4 ++ (turns-5)))))) turns-6 (unseen 33 21 32)
+    (behind 33 (first_state 33 dead-33) (state-33 known-6 6 182) (turns-0 ++ (turns-1 ++ (turns-2 ++ (turns-3 ++ (turns-4 ++ (turns-5)))))) turns-6
+    (unseen 33 21 32)
     (goes-append round-0 (goes-append round-1 (goes-append round-2 (goes-append round-3 (goes-append round-4 (round-5)))))) last-round)
 
 -- a size with as many levels as a computed one
@@ -185,7 +187,7 @@ from-computed b n c size low levels = slow-worst-case wiring_cube n (greater b n
 
 -- with as many levels as one of these, from 3 boards on
 pub cube-reached : (n : ℕ) → is_size n ≡ true → 3 ≤ n → WorstCaseAt wiring_cube n
-unfolding whole_run
+unfolding whole_list
 cube-reached n size three = go (size-log n size)
   where
     go : (h : ℕ) × (dimension n ≡ suc h) × (2 ^ h < n) × (n ≤ 2 ^ suc h) → WorstCaseAt wiring_cube n

@@ -3,13 +3,30 @@
 use mathlib.Core.Path.{refl}
 use native.Mathlib.Omega.{arith}
 use Rattle.witness.specs.Witness.{turns_of, boards, calls, FourBoards, ThreeBoards, ring_boards, ring_calls, FourOnRing}
-use Rattle.witness.proofs.Computing.{whole_run}
+use Rattle.witness.proofs.Computing.{whole_list}
+
+-- the detection conditions, each computed
+met : {w n : ℕ} {s : State} {calls : List Call} → wiring_check w ≡ Ok tt → is_size n ≡ true → length s.table ≡ table_length n
+    → at_start n s.table ≡ true → 2 ≤ live_count n s.table → none_suspected n s.table ≡ true → all_taken (is_on w) (taken_all s calls) ≡ true
+    → all_taken (λ x. not (crashes x)) (taken_all s calls) ≡ true → all_taken (λ x. not (is_late x)) (taken_all s calls) ≡ true
+    → DetectionPremises w n s calls
+met wiring size long start two accurate one none never = record {
+  wiring = wiring;
+  size = size;
+  long = long;
+  start = start;
+  two_live = two;
+  accurate = accurate;
+  one_wiring = one;
+  no_crash = none;
+  no_late = never;
+}
 
 -- four boards
 pub witness : FourBoards
-unfolding whole_run boards turns_of calls
+unfolding whole_list boards turns_of calls
 witness = record {
-  premises = record { wiring = refl; size = refl; long = refl; start = refl; two_live = omega arith; accurate = refl; one_wiring = refl; no_crash = refl; no_late = refl };
+  premises = met refl refl refl refl (omega arith) refl refl refl refl;
   closed_tests = refl;
   open_tests = refl;
   counted = refl;
@@ -17,9 +34,9 @@ witness = record {
 
 -- three boards
 pub witness-3 : ThreeBoards
-unfolding whole_run turns_of
+unfolding whole_list turns_of
 witness-3 = record {
-  premises = record { wiring = refl; size = refl; long = refl; start = refl; two_live = omega arith; accurate = refl; one_wiring = refl; no_crash = refl; no_late = refl };
+  premises = met refl refl refl refl (omega arith) refl refl refl refl;
   closed_tests = refl;
   open_tests = refl;
   counted = refl;
@@ -27,9 +44,9 @@ witness-3 = record {
 
 -- four boards on the ring
 pub witness-ring : FourOnRing
-unfolding whole_run ring_boards turns_of ring_calls
+unfolding whole_list ring_boards turns_of ring_calls
 witness-ring = record {
-  premises = record { wiring = refl; size = refl; long = refl; start = refl; two_live = omega arith; accurate = refl; one_wiring = refl; no_crash = refl; no_late = refl };
+  premises = met refl refl refl refl (omega arith) refl refl refl refl;
   closed_tests = refl;
   open_tests = refl;
   counted = refl;

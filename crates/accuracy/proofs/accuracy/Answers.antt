@@ -2,14 +2,11 @@
 use Rattle.accuracy.proofs.Claims.{runs-accurate, mixed-accurate, drives-tell-nobody}
 use Rattle.accuracy.proofs.accuracy.Goals as goal
 
--- The law itself.
 pub returns-clause-runs_accurate : goal.returns-clause-runs_accurate
 returns-clause-runs_accurate c = runs-accurate
 
--- The law itself.
 pub returns-clause-mixed_accurate : goal.returns-clause-mixed_accurate
 returns-clause-mixed_accurate c = mixed-accurate
 
--- The law itself.
 pub returns-clause-drives_tell_nobody : goal.returns-clause-drives_tell_nobody
 returns-clause-drives_tell_nobody c = drives-tell-nobody

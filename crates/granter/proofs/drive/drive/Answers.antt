@@ -1,7 +1,6 @@
 -- A drive that is not refused at its start goes on, and stops.
-use Rattle.std.proofs.Common.{rules, sym, ap, ◌∙◌}
+use Rattle.std.proofs.Common.{rules, sym, ap}
 use Rattle.lists.specs.Refusal.{number_of_result}
-use Rattle.lists.proofs.RefusalLaws.{number_nonzero}
 use Rattle.plant.specs.Entry.{state_with}
 use Rattle.granter.proofs.DriveLaws.{drive-refused, drive-made}
 use Rattle.granter.proofs.drive.drive.Goals as goal
@@ -11,17 +10,6 @@ returns-in-Err-clause-outcome c =
     let a = c.args in
     sym (drive-refused a.wiring a.n (state_with a.table.now a.tally) a.last _ (sym c.in-Err.ensures.check))
 
-pub returns-in-Err-clause-stopped_if_taken : goal.returns-in-Err-clause-stopped_if_taken
-returns-in-Err-clause-stopped_if_taken c = λ z. absurd (number_nonzero _ (ap number_of_result c.in-Err.ensures.check ∙ z))
-
-pub drive_on-requires : goal.drive_on-requires
-drive_on-requires c =
-    let o = c.in-Ok.ensures in
-    record {
-      taken = rw (o.same_wiring, o.same_size, o.same_last) (ap number_of_result (sym o.check));
-      last_below = rw o.same_size o.last_below;
-    }
-
 pub returns-clause-outcome : goal.returns-clause-outcome
 returns-clause-outcome c =
     let a = c.args in
@@ -29,6 +17,3 @@ returns-clause-outcome c =
     let z = ap number_of_result (sym o.check) in
     let s = rw (o.same_wiring, o.same_size, o.same_last) at c.drive_on.ensures.stopped in
     rw (← drive-made a.wiring a.n (state_with a.table.now a.tally) a.last _ z s, ← o.same_last, ← o.same_size, ← o.same_wiring) (search rules)
-
-pub returns-clause-stopped_if_taken : goal.returns-clause-stopped_if_taken
-returns-clause-stopped_if_taken c = λ _. let o = c.in-Ok.ensures in rw (o.same_wiring, o.same_size, o.same_last) at c.drive_on.ensures.stopped

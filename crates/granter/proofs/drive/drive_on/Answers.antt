@@ -4,7 +4,8 @@ use Rattle.plant.specs.Entry.{state_with}
 use Rattle.granter.specs.Grant.{last_number}
 use Rattle.granter.specs.Drive.{stand_at, after_grants}
 use Rattle.granter.proofs.GrantLaws.{grantable}
-use Rattle.granter.proofs.DriveLaws.{driving-start, next-within, grant-ready, turn-ready, granted-below, grants-small, turned-is, turned_on, end-stop, drives-on, full-stop}
+use Rattle.granter.proofs.DriveLaws.{driving-start, next-within, grant-ready, turn-ready, granted-below, turned-is, turned_on}
+use Rattle.granter.proofs.DriveLaws.{end-stop, drives-on, full-stop}
 use Rattle.granter.proofs.drive.drive_on.Goals as goal
 use Rattle.granter.proofs.drive.drive_on.Goals.{then-is_full, else-is_full+then-ended}
 
@@ -30,9 +31,6 @@ take_turn-held-requires c =
     let r = turn-ready _ _ _ _ _ l.led l.driving (sym c.is_full.ensures ∙ c.if-is_full.false) in
     let next = rw (c.read.ensures.same_size, c.read.ensures.same_bytes, l.loan.size) at c.next_station-i.ensures in
     rw l.loan.size (record { table_obeys = r.0; turn_taken = rw next r.1 })
-
-pub overflow_add-grants : goal.overflow_add-grants
-overflow_add-grants c = omega (arith, grants-small _ c.args.table.now.n _ _ c.loop-wiring.invariant.driving)
 
 pub loop-wiring-smaller : goal.loop-wiring-smaller
 loop-wiring-smaller c = omega (arith, next-within _ _ _ _ c.loop-wiring.invariant.driving)

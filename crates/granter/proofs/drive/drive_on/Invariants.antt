@@ -14,8 +14,10 @@ invariant-loop-wiring l = record {
   loan : IsSameLoan l.initial.table l.table;
   below : IfSome l.before (λ i. i.0 < l.initial.table.n);
   led : stand_at (state_with l.table.bytes.now l.held) (last_number l.before)
-      ≡ after_grants (wiring_number l.fn.wiring) l.initial.table.n (stand_at (state_with l.initial.table.bytes.now l.fn.tally) (last_number l.fn.last)) l.grants;
-  driving : Driving (wiring_number l.fn.wiring) l.initial.table.n (stand_at (state_with l.initial.table.bytes.now l.fn.tally) (last_number l.fn.last)) l.grants;
+      ≡ after_grants (wiring_number l.fn.wiring) l.initial.table.n
+      (stand_at (state_with l.initial.table.bytes.now l.fn.tally) (last_number l.fn.last)) l.grants;
+  driving : Driving (wiring_number l.fn.wiring) l.initial.table.n
+      (stand_at (state_with l.initial.table.bytes.now l.fn.tally) (last_number l.fn.last)) l.grants;
 }
 
 abbrev pub decreases-loop-wiring : goal.decreases-loop-wiring

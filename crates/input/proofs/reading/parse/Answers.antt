@@ -1,5 +1,6 @@
 -- The lines are gone through in order: where reading stops, the entries read are the front of the schedule.
-use Rattle.std.proofs.Common.{◌≡◌, ℕ, List, Bor, [], ◌∷◌, ◌<◌, ◌*◌, ◌+◌, length, get_or, take, drop, refl, sym, ap, add-one, drop-cons, drop_of_length-le, length-append, ◌++◌, if◌then◌else◌, nat_lt, ◌∙◌, rules, tests, arith, option_map}
+use Rattle.std.proofs.Common.{◌≡◌, ℕ, List, Bor, [], ◌∷◌, ◌++◌, ◌<◌, ◌*◌, ◌+◌, length, get_or, take, drop, if◌then◌else◌, nat_lt, option_map}
+use Rattle.std.proofs.Common.{refl, sym, ap, ◌∙◌, add-one, drop-cons, drop_of_length-le, length-append, rules, tests, arith}
 use Rattle.std.specs.Prelude.{Option, None, Some, unwrap_or}
 use Rattle.std.proofs.lemmas.Iterator.{YieldsList}
 use Rattle.std.proofs.lemmas.Iterator.Consumers.{YieldsList-at, YieldsList-turn, YieldsList-end}
@@ -12,8 +13,8 @@ use Rattle.input.proofs.reading.parse.Goals as goal
 use Rattle.input.proofs.reading.parse.Goals.{After-unwrap_or-first, In-Some-line, In-None}
 
 -- the first item, and the road behind it
-started : {S : Type 0} {steps : S → Option (Bor (List ℕ)) → S → Type 0} (ps : List (List ℕ)) (s t : S) (o : Option (Bor (List ℕ))) (f d : Bor (List ℕ))
-    → 0 < length ps → steps s o t → f ≡ unwrap_or o d → YieldsList steps (λ x. x.now) s ps
+started : {S : Type 0} {steps : S → Option (Bor (List ℕ)) → S → Type 0} (ps : List (List ℕ)) (s t : S)
+    (o : Option (Bor (List ℕ))) (f d : Bor (List ℕ)) → 0 < length ps → steps s o t → f ≡ unwrap_or o d → YieldsList steps (λ x. x.now) s ps
     → (ps ≡ f.now ∷ drop 1 ps) × YieldsList steps (λ x. x.now) t (drop 1 ps)
 started [] s t o f d h k e a = absurd (omega arith)
 started (y ∷ ys) s t None f d h k e a = absurd (a.runs.0 t k)

@@ -1,5 +1,5 @@
 -- More bytes, or other bytes, are no number; digits are text, and `parse` reads them.
-use Rattle.std.proofs.Common.{◌≡◌, ℕ, List, Bor, sym, ap, ◌∙◌, rules, tests, arith}
+use Rattle.std.proofs.Common.{◌≡◌, ℕ, List, Bor, sym, ap, ◌∙◌, rules, tests}
 use Rattle.std.specs.Prelude.{None, Some, Result, Ok, Err, MatchResult}
 use Rattle.std.specs.Result.{result_ok}
 use Rattle.std.specs.Str.{IsUtf8}
@@ -15,13 +15,13 @@ use Rattle.input.proofs.reading.read_number.Goals.{then-most-digits-via-then-mos
 module _ {E : Type 0} (bs : List ℕ) (Q : E → Type 0) where
   refused : (r : Result (Bor (List ℕ)) E) → IsUtf8 bs → MatchResult r (λ s. (s.now ≡ bs) × IsUtf8 bs) (λ e. ¬ (IsUtf8 bs) × Q e)
       → result_ok r ≡ None → ⊥
-  refused (Ok s) u m e = let z : ◌≡◌ {A = ℕ} 0 1 = cc in omega arith
+  refused (Ok s) u m e = cc
   refused (Err x) u m e = m.0 u
 
   kept : (r : Result (Bor (List ℕ)) E) (t : Bor (List ℕ)) → MatchResult r (λ s. (s.now ≡ bs) × IsUtf8 bs) (λ e. ¬ (IsUtf8 bs) × Q e)
       → result_ok r ≡ Some t → t.now ≡ bs
   kept (Ok s) t m e = let f : s ≡ t = cc in ap (λ (x : Bor (List ℕ)). x.now) (sym f) ∙ m.0
-  kept (Err x) t m e = let z : ◌≡◌ {A = ℕ} 0 1 = cc in absurd (omega arith)
+  kept (Err x) t m e = cc
 
 pub returns-then-most-digits : goal.returns-then-most-digits
 returns-then-most-digits c = elim c.then-most-digits.branch [

@@ -1,0 +1,16 @@
+-- What the drive leaves is what its definition says, and of that the laws of lists speak.
+use Rattle.plant.specs.Entry.{state_of}
+use Rattle.detection.specs.Driven.{a_drive}
+use Rattle.detection.proofs.DrivenDetection.{drive-detects}
+use Rattle.accuracy.proofs.Claims.{last-accurate}
+use Rattle.vcube.proofs.vcube_drive.Goals as goal
+
+pub returns-clause-detection : goal.returns-clause-detection
+returns-clause-detection c =
+    let before = state_of c.args.table.now c.args.rounds.now c.args.tests.now in
+    rw (← c.drive-driven.ensures.outcome) at (drive-detects c.args.wiring c.args.n before c.args.last.now)
+
+pub returns-clause-accurate : goal.returns-clause-accurate
+returns-clause-accurate c =
+    let before = state_of c.args.table.now c.args.rounds.now c.args.tests.now in
+    rw (← c.drive-driven.ensures.outcome) at (last-accurate (a_drive c.args.wiring c.args.n c.args.last.now) before)

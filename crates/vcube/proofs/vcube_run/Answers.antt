@@ -1,0 +1,23 @@
+-- What the run leaves is what its definition says, and of that the laws of lists speak.
+use Rattle.plant.specs.Entry.{state_of}
+use Rattle.detection.specs.Runs.{call_of}
+use Rattle.detection.specs.Driven.{a_run}
+use Rattle.detection.proofs.Chain.{taken_is}
+use Rattle.detection.proofs.DetectionClaim.{run-detects}
+use Rattle.accuracy.proofs.Claims.{last-accurate}
+use Rattle.vcube.proofs.vcube_run.Goals as goal
+
+pub returns-clause-counts_taken : goal.returns-clause-counts_taken
+returns-clause-counts_taken c =
+    let call = call_of c.args.wiring c.args.n c.args.schedule.now c.args.sheet.now in
+    rw (← c.run-ran.ensures) at (taken_is (state_of c.args.table.now c.args.rounds.now c.args.tests.now) call)
+
+pub returns-clause-detection : goal.returns-clause-detection
+returns-clause-detection c =
+    let call = call_of c.args.wiring c.args.n c.args.schedule.now c.args.sheet.now in
+    rw (← c.run-ran.ensures) at (run-detects call (state_of c.args.table.now c.args.rounds.now c.args.tests.now))
+
+pub returns-clause-accurate : goal.returns-clause-accurate
+returns-clause-accurate c =
+    let call = call_of c.args.wiring c.args.n c.args.schedule.now c.args.sheet.now in
+    rw (← c.run-ran.ensures) at (last-accurate (a_run call) (state_of c.args.table.now c.args.rounds.now c.args.tests.now))
