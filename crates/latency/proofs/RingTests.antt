@@ -113,7 +113,7 @@ module _ (n : ℕ) (live : ℕ → Bool) where
         let ended = turn.finishes (omega (arith, e.0)) in
         inr (ended.0, omega (arith, e.1, ended.1))
 
-    turn-fits : Fitting next' made'
+    pub turn-fits : Fitting next' made'
     turn-fits k h l =
         by_cases (ℕ_discrete k i) (λ e. rw e (own (fit i hi alive)))
         (λ e. let same = turn.others k e in rw (same.0, same.1) (fit k h l))
