@@ -1253,6 +1253,8 @@ static struct {
     unsigned silences;
     struct vcube_entry last;
     unsigned entries;
+    struct vcube_fault fault;
+    unsigned faults;
 } bench;
 
 static void need(bool holds, const char *what)
@@ -1312,6 +1314,13 @@ static void bench_entered(void *context, const struct vcube_entry *entry)
     (void)context;
     bench.entries++;
     bench.last = *entry;
+}
+
+static void bench_fault(void *context, const struct vcube_fault *fault)
+{
+    (void)context;
+    bench.faults++;
+    bench.fault = *fault;
 }
 
 static unsigned count_out(enum vcube_frame_kind kind)
@@ -1421,6 +1430,7 @@ static void start_master(void)
     master_settings.times = usual;
     master_settings.silence = bench_silence;
     master_settings.entered = bench_entered;
+    master_settings.fault = bench_fault;
     need(vcube_master_start(&master, &master_settings) == VCUBE_ACCEPTED, "the master starts");
 }
 
@@ -1449,7 +1459,16 @@ static void try_silence(void)
     need(bench.silences == 1, "silence G and P after a board was heard");
 }
 
-/* The time of the probe begins when it has gone out. */
+/* Steps until it probes. */
+static void step_until_probe(void)
+{
+    for (unsigned count = 0; master.phase != VCUBE_MASTER_PROBING; count++) {
+        need(count < 100, "the master probes");
+        step_master(1);
+    }
+}
+
+/* The time of the probe begins when it has gone out. An answer to an earlier probe says nothing. */
 static void try_probe(void)
 {
     const uint8_t here[5] = {1, 0, 0, 0, 0};
@@ -1469,6 +1488,90 @@ static void try_probe(void)
     need(bench.entries == 0 && bench.silences == 0, "the time of a probe runs from when it has gone out");
     step_master(2);
     need(bench.entries == 1 && bench.last.kind == VCUBE_KIND_CRASH && bench.last.station == 0, "the board that is not heard is entered as crashed");
+    start_master();
+    step_until_probe();
+    step_master(25);
+    step_until_probe();
+    come_alone(2, 0, VCUBE_FRAME_HERE, 1, sizeof here, here);
+    step_master(25);
+    need(bench.entries == 0, "an answer to an earlier probe says nothing");
+    for (unsigned asks = 0; asks < 2; asks++) {
+        start_master();
+        step_until_probe();
+        come_alone(2, 0, VCUBE_FRAME_HERE, 1, sizeof here, here);
+        come_alone(0, !asks, asks ? VCUBE_FRAME_ASK : VCUBE_FRAME_TEST, 1, 0, NULL);
+        step_master(25);
+        need(bench.entries == 0 && bench.faults == 0, "asking and testing are signs of life");
+    }
+}
+
+/* A board that answers probes, and does not end its turn, gets the time of a turn three times more, and then is named. */
+static void try_no_end(void)
+{
+    uint8_t here[5] = {0, 0, 0, 0, 0};
+
+    start_master();
+    for (unsigned longer = 0; longer <= 3; longer++) {
+        need(bench.entries == 0 && bench.faults == 0, "a board that answers gets the time of a turn three times more");
+        step_until_probe();
+        here[0] = master.probes;
+        come_alone(0, 0, VCUBE_FRAME_HERE, 1, sizeof here, here);
+        come_alone(2, 0, VCUBE_FRAME_HERE, 1, sizeof here, here);
+        step_master(25);
+    }
+    need(bench.faults == 1 && bench.fault.kind == VCUBE_FAULT_NO_END && bench.fault.board == 0, "then it is named");
+    need(bench.entries == 1 && bench.last.kind == VCUBE_KIND_CRASH && bench.last.station == 0, "and entered as crashed");
+}
+
+/* Each fault of a frame in the first turn, in which board 0 tests 1, and they exchange. The board named is entered as crashed, or the master stops.
+ * If the granted board is another one, it is granted again. */
+static void try_faults(void)
+{
+    static const struct {
+        enum vcube_frame_kind kind;
+        uint8_t sender;
+        uint8_t receiver;
+        uint8_t row;
+        struct vcube_fault fault;
+    } wrong[] = {
+        {VCUBE_FRAME_TEST, 0, 2, 0, {VCUBE_FAULT_WRONG_TEST, 1, 0, 2, 1, 1, 1}},
+        {VCUBE_FRAME_FINISHED, 0, 0, 0, {VCUBE_FAULT_WRONG_TEST, 1, 0, VCUBE_NO_STATION, 1, VCUBE_OUTCOME_PASS_FINISHED, 1}},
+        {VCUBE_FRAME_EXCHANGE, 0, 2, 0, {VCUBE_FAULT_WRONG_TEST, 1, 0, 2, 1, 1, 1}},
+        {VCUBE_FRAME_NO_REPLY, 0, 2, 0, {VCUBE_FAULT_WRONG_TEST, 1, 0, 2, 1, VCUBE_OUTCOME_NO_REPLY, 1}},
+        {VCUBE_FRAME_LEFT, 0, 1, 0, {VCUBE_FAULT_WRONG_END, 1, 0, 1, 1, VCUBE_OUTCOME_TOLD, 1}},
+        {VCUBE_FRAME_TOLD, 0, 1, 0, {VCUBE_FAULT_WRONG_END, 1, 0, 1, 1, VCUBE_OUTCOME_TESTED_TOLD, 1}},
+        {VCUBE_FRAME_EXCHANGE, 0, 1, 4, {VCUBE_FAULT_WRONG_ROW, 1, 0, 1, 1, 1, 1}},
+        {VCUBE_FRAME_REPLY, 1, 0, 4, {VCUBE_FAULT_WRONG_ROW, 1, 1, VCUBE_NO_STATION, VCUBE_NO_STATION, 1, 1}},
+        {VCUBE_FRAME_TEST, 2, 3, 0, {VCUBE_FAULT_NOT_GRANTED, 1, 2, 3, VCUBE_NO_STATION, 1, 1}},
+    };
+
+    for (size_t k = 0; k < 2 * sizeof wrong / sizeof wrong[0]; k++) {
+        const size_t at = k / 2;
+        const struct vcube_fault *should = &wrong[at].fault, *is = &bench.fault;
+        const bool has_row = wrong[at].kind == VCUBE_FRAME_EXCHANGE || wrong[at].kind == VCUBE_FRAME_REPLY;
+
+        start_master();
+        master_settings.stops_at_fault = k % 2;
+        need(vcube_master_start(&master, &master_settings) == VCUBE_ACCEPTED, "the master starts");
+        step_master(1);
+        come_alone(wrong[at].sender, wrong[at].receiver, wrong[at].kind, 2, has_row, &wrong[at].row);
+        come_alone(wrong[at].sender, wrong[at].receiver, wrong[at].kind, 1, !has_row, &wrong[at].row);
+        step_master(1);
+        need(bench.faults == 0 && bench.entries == 0, "a frame of another turn, or of another length, is no fault");
+        come_alone(3, 0, VCUBE_FRAME_FINISHED, 1, 0, NULL);
+        come_alone(3, 1, VCUBE_FRAME_EXCHANGE, 1, 1, (const uint8_t[]){0});
+        step_master(1);
+        need(bench.faults == 0 && bench.entries == 0, "an end of a board that is not granted is thrown away");
+        come_alone(wrong[at].sender, wrong[at].receiver, wrong[at].kind, 1, has_row, &wrong[at].row);
+        step_master(2);
+        need(bench.faults == 1 && is->kind == should->kind && is->number == should->number && is->board == should->board
+                 && is->tested == should->tested && is->should_test == should->should_test && is->said == should->said
+                 && is->should_say == should->should_say,
+             "a frame that is not what the table says is named, with what it should be");
+        need(vcube_master_has_stopped(&master) == (k % 2 == 1) && bench.entries == (k % 2 == 0), "the master stops, or goes on, as its maker chose");
+        need(k % 2 || (bench.last.kind == VCUBE_KIND_CRASH && bench.last.station == should->board), "the board named is entered as crashed");
+        need(k % 2 || master.granted == (should->board == 0), "the turn of a board that keeps the rules is granted again");
+    }
 }
 
 /* Halves of different lines, whose numbers have the same low bits, are not joined. */
@@ -1709,6 +1812,8 @@ static void try_cases(void)
 {
     try_silence();
     try_probe();
+    try_no_end();
+    try_faults();
     try_halves();
     try_turn();
     try_behind();

@@ -121,7 +121,7 @@ class Run:
     n: int
     wiring: str
     reply: int
-    killed: dict  # board -> when it was killed, in milliseconds from the start
+    killed: set
     stopped: set
     entries: list
     others: list
@@ -159,7 +159,7 @@ def read_run(folder, n, wiring, reply, text, simulator):
         boards[k], outputs[k] = read_board(folder, k)
     with open(os.path.join(folder, 'recorded'), encoding='ascii') as file:
         recorded = file.read()
-    killed = {int(k): float(at) * 1000 for at, k in re.findall(r'^ *([\d.]+) s  board (\d+) is killed$', text, re.MULTILINE)}
+    killed = {int(rest) for _, what, rest in others if what == 'killed'}
     stopped = {int(k) for k in re.findall(r'board (\d+) is stopped', text)}
     return Run(n, wiring, reply, killed, stopped, entries, others, boards, outputs, simulated(simulator, wiring, recording(n, entries)),
                recorded, read_frames(folder))
@@ -365,8 +365,7 @@ def known_in_milliseconds(run, known):
     first = next((entry for entry in run.entries if entry.number >= crashes[-1].number and run.table(entry.number).all_known()), None)
     if first is None:
         return
-    start = run.entries[0].at
-    took = first.at - start - max(run.killed.values())
+    took = first.at - max(at for at, what, _ in run.others if what == 'killed')
     crash = 3 * run.reply + 10  # G + P
     most = run.states[crashes[-1].number].wait[2] * run.reply + len(crashes) * crash
     known.milliseconds, known.most_milliseconds = took, most

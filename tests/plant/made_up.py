@@ -30,7 +30,7 @@ def sound(simulator, late):
     length = n + logs.HEAD
     boards = {k: [(number, state.table[k * length:(k + 1) * length]) for number, state in enumerate(states)] for k in range(n)}
     outputs = {k: ['on'] if states[-1].table[k * length] == logs.LIVE else ['on', 'off'] for k in range(n)}
-    killed = {} if late else {KILLED: 5}
+    killed = set() if late else {KILLED}
     return logs.Run(n, wiring, 50, killed, {LATE} if late else set(), entries, [] if late else [(5, 'killed', str(KILLED))], boards, outputs, states,
                     logs.recording(n, entries), [*((kind << 24, length) for kind, length in frames.lengths(n).items()), *ends(n, entries)])
 
@@ -109,7 +109,7 @@ WRONG = [
     ('a crash without a kill', False, to('others', lambda _: []), 'nothing_is_late_without_cause'),
     ('a sound board that is named', False, fault(1, 0), 'only_wrong_boards_are_named'),
     ('a live board that is named as dead', False, fault(logs.NOT_LIVE, 0), 'only_wrong_boards_are_named'),
-    ('a killed board that is live', True, to('killed', lambda _: {0: 5}), 'killed_are_known'),
+    ('a killed board that is live', True, to('killed', lambda _: {0}), 'killed_are_known'),
     ('a killed board that is not known', False, lambda run: never_known(run, 0), 'killed_are_known'),
     ('a dead board that is not known in time', False, lambda run: never_known(run, 0), 'known_in_time'),
     ('a dead board that is known late', False,

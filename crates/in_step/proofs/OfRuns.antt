@@ -10,10 +10,10 @@ use borrow.Author.Tests.{eqb-true}
 use lib.Dec.{eqb}
 use lib.ListN.{length, replicate, get_or, length-replicate}
 use Rattle.lists.proofs.BoolLaws.{by_bool}
-use Rattle.lists.proofs.SearchLaws.{both, every-at}
+use Rattle.lists.proofs.SearchLaws.{both}
 use Rattle.table.specs.Table.{head, status, status_column, status_told, suspects, live}
 use Rattle.table.specs.Line.{line, is_live}
-use Rattle.table.specs.Properties.{no_live_suspicion, none_suspected}
+use Rattle.table.specs.Properties.{none_suspected}
 use Rattle.table.specs.Rules.{numbered_table_refusal}
 use Rattle.table.proofs.Accepting.{accepted}
 use Rattle.table.proofs.LineLaws.{line_at}
@@ -25,7 +25,7 @@ use Rattle.detection.proofs.DetectionClaim.{detection-in-worst-case}
 use Rattle.accuracy.specs.Cause.{Suspicion, IsSuspected, late_of, was_late}
 use Rattle.accuracy.specs.Accurate.{Accurate}
 use Rattle.accuracy.proofs.Chains.{any-before}
-use Rattle.accuracy.proofs.Claims.{runs-accurate}
+use Rattle.accuracy.proofs.Claims.{none-suspects, runs-accurate}
 use Rattle.in_step.specs.System.{System, start, after_all}
 use Rattle.in_step.specs.Happenings.{after_happenings}
 use Rattle.in_step.specs.Claims.{InStep}
@@ -35,13 +35,6 @@ use Rattle.in_step.proofs.Entries.{Taken as AllTaken}
 use Rattle.in_step.proofs.TurnHeard.{live-line}
 use Rattle.in_step.proofs.Runs.{is-run, run-starts, entries-back, taken-take}
 use Rattle.in_step.proofs.Kept.{all-taken, boards-in-step}
-
-none-suspects : (n : ℕ) (t : List ℕ) → none_suspected n t ≡ true → (j : ℕ) → j < n → IsSuspected n t j → ⊥
-unfolding none_suspected
-none-suspects n t none j hj p =
-    let q = every-at (no_live_suspicion n t p.0) n j (every-at _ n p.0 none p.1) hj in
-    let z : false ≡ true = rw (p.2.by_live, p.2.of_live, p.2.suspected) at q in
-    cc
 
 module _ (w n : ℕ) where
   -- the late reply among the taken entries

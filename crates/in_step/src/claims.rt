@@ -12,7 +12,8 @@ pub fn in_step()
     ensures boards_in_step { BoardsInStep }
     // Whatever happens, a live board is suspected, or leaves because it is told, only by an entry that got no reply of it.
     ensures causes_in_step { CausesInStep }
-    // Once as many rounds as in the worst case have closed in the entries in force at a board, its own line suspects just the boards that are not live.
+    // Once as many rounds as in the worst case have closed in the entries in force at a board, its own line suspects just the boards that are not
+    // live.
     ensures wait_in_step { WaitInStep }
     // And nothing stands in the way: any entries that a master makes are in force at each board after some list of happenings.
     ensures entries_get_in_force { EntriesGetInForce }

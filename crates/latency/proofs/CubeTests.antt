@@ -91,7 +91,7 @@ leads-narrow n L L' i m fewer hi li =
     omega (arith, ap bit e, ap bit still))
     (λ e. omega (arith, ap bit e))
 
-pub led-narrow : (n : ℕ) (L L' : ℕ → Bool) (t t' : List ℕ) → ((i : ℕ) → i < n → L' i ≡ true → L i ≡ true)
+led-narrow : (n : ℕ) (L L' : ℕ → Bool) (t t' : List ℕ) → ((i : ℕ) → i < n → L' i ≡ true → L i ≡ true)
     → ((i : ℕ) → i < n → (next_distance n t' i ≡ next_distance n t i) × (tests_made n t' i ≡ tests_made n t i)) → Led n L t → Led n L' t'
 led-narrow n L L' t t' fewer same led i h l =
     let s = same i h in
@@ -145,7 +145,7 @@ module _ (n : ℕ) (L : ℕ → Bool) (t' : List ℕ) (s : State) (e : Entry) (p
         leads-grow n L i (next_distance n t i) (end_distance wiring_cube n) (plain.lines.1 i turn.below).pass.next_high,
       )))
 
-  pub turn-led : Led n L t'
+  turn-led : Led n L t'
   turn-led k h l =
       by_cases (ℕ_discrete k i) (λ q. rw q own)
       (λ q.
@@ -158,7 +158,7 @@ module _ (n : ℕ) (T : List ℕ) (low : n ≤ distances n) where
   abbrev L : ℕ → Bool
   L = live n T
 
-  pub led-within : (t : List ℕ) → Plain wiring_cube n L t → Led n L t → sum_below (λ i. cond (L i) (tests_made n t i) 0) n ≤ tests_per_round n T
+  led-within : (t : List ℕ) → Plain wiring_cube n L t → Led n L t → sum_below (λ i. cond (L i) (tests_made n t i) 0) n ≤ tests_per_round n T
   led-within t plain led =
       let each : (i : ℕ) → i < n → cond (L i) (tests_made n t i) 0 ≤ leads_below n L i (distances n) =
       λ i h.

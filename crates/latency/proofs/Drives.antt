@@ -34,7 +34,8 @@ use Rattle.latency.specs.Crash.{DrivesKnownFromAnyMoment}
 use Rattle.latency.proofs.Known.{Quiet, Facts, facts, known-from-now}
 
 -- two chains, one behind the other
-wired-append : {w n : ℕ} {s s' s'' : State} {xs ys : List Taken} → WiredChain w n s xs s' → WiredChain w n s' ys s'' → WiredChain w n s (xs ++ ys) s''
+wired-append : {w n : ℕ} {s s' s'' : State} {xs ys : List Taken} → WiredChain w n s xs s'
+    → WiredChain w n s' ys s'' → WiredChain w n s (xs ++ ys) s''
 wired-append ends d = d
 wired-append (next e a z c) d = next e a z (wired-append c d)
 

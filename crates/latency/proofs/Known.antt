@@ -160,7 +160,7 @@ module _ (w n : ℕ) (T : List ℕ) (size : is_size n ≡ true) (two : 2 ≤ liv
       let exact = K.exact c.start _ _ c.gave (length (cut [] xs).closed) (omega (arith, enough)) (omega arith) i j h g l in
       by_bool (live n T j) (λ e. rw e (c.plain.accurate i j h g l e)) (λ e. rw e (c.grown i j h g (exact e)))
 
-  pub facts-by : Facts w n T
+  facts-by : Facts w n T
   facts-by = record {
     each = λ chain ok inv q k h. (rounds-within chain ok inv q).each k h;
     room = λ chain ok inv q. (rounds-within chain ok inv q).room;

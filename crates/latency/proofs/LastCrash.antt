@@ -16,7 +16,8 @@ use Rattle.lists.proofs.BoolLaws.{by_bool, choice}
 use Rattle.lists.proofs.SearchLaws.{both}
 use Rattle.lists.proofs.SumLaws.{sum_by, sum-add, sum-single}
 use Rattle.slots.proofs.Counts.{sum-le}
-use Rattle.table.specs.Table.{head, cell, status_column, next_column, finished_column, tests_column, next_distance, finished, tests_made, suspects, live, status_crashed}
+use Rattle.table.specs.Table.{head, cell, status_column, next_column, finished_column, tests_column, status_crashed}
+use Rattle.table.specs.Table.{next_distance, finished, tests_made, suspects, live}
 use Rattle.table.specs.Sizes.{is_size}
 use Rattle.table.specs.Wiring.{wiring_cube, wiring_ring, wiring_check}
 use Rattle.table.specs.Rules.{round_over}
@@ -188,7 +189,7 @@ module _ (w n : ℕ) (B : TestsBound w n) where
         let still = B.turns L (acted w n s.table e) s e p turn fits in
         (still, omega (arith, made-more s e (acted w n s.table e) turn, made-most (acted w n s.table e) turn.kept.plain still))
 
-    pub known-since : wiring_check w ≡ Ok tt → is_size n ≡ true → {s s' : State} {xs : List Taken} → WiredChain w n s xs s' → Plain w n L s.table
+    known-since : wiring_check w ≡ Ok tt → is_size n ≡ true → {s s' : State} {xs : List Taken} → WiredChain w n s xs s' → Plain w n L s.table
         → B.Fits L s.table → Quiet xs → turns_from_crash w n T ≤ length xs → AllKnow n T s'.table
     known-since wired size chain p fits quiet far =
         let f = facts w n T wired size two in

@@ -69,7 +69,7 @@ module _ (n : ℕ) (live : ℕ → Bool) where
   abbrev pub Fitting : (ℕ → ℕ) → (ℕ → ℕ) → Type 0
   Fitting next made = (i : ℕ) → i < n → live i ≡ true → Fit i (next i) (made i)
 
-  pub few-tests : (next made : ℕ → ℕ) → Fitting next made → (z : ℕ) → z < n → live z ≡ true → sum_below (λ i. cond (live i) (made i) 0) n ≤ n
+  few-tests : (next made : ℕ → ℕ) → Fitting next made → (z : ℕ) → z < n → live z ≡ true → sum_below (λ i. cond (live i) (made i) 0) n ≤ n
   few-tests next made fit z hz lz =
       let few : (i : ℕ) → i < n → cond (live i) (made i) 0 ≤ places i =
       λ i h. by_bool (live i) (λ l. rw l (fit-few i (next i) (made i) (fit i h l))) (λ l. rw l (omega arith)) in
@@ -113,7 +113,7 @@ module _ (n : ℕ) (live : ℕ → Bool) where
         let ended = turn.finishes (omega (arith, e.0)) in
         inr (ended.0, omega (arith, e.1, ended.1))
 
-    pub turn-fits : Fitting next' made'
+    turn-fits : Fitting next' made'
     turn-fits k h l =
         by_cases (ℕ_discrete k i) (λ e. rw e (own (fit i hi alive)))
         (λ e. let same = turn.others k e in rw (same.0, same.1) (fit k h l))
@@ -138,7 +138,7 @@ module _ (n : ℕ) (live live' : ℕ → Bool) (fewer : (x : ℕ) → x < n → 
   fit-narrow i q made (inl w) = inl (record { tests = w.tests; high = w.high; dead = λ k a b. dead-still k (w.dead k a b) })
   fit-narrow i q made (inr e) = inr (e.0, omega (arith, e.1, after-grows i))
 
-  pub narrow-fits : (next next' made made' : ℕ → ℕ) → ((i : ℕ) → i < n → (next' i ≡ next i) × (made' i ≡ made i)) → Fitting n live next made
+  narrow-fits : (next next' made made' : ℕ → ℕ) → ((i : ℕ) → i < n → (next' i ≡ next i) × (made' i ≡ made i)) → Fitting n live next made
       → Fitting n live' next' made'
   narrow-fits next next' made made' same fit i h l =
       let s = same i h in rw (s.0, s.1) (fit-narrow i (next i) (made i) (fit i h (fewer i h l)))

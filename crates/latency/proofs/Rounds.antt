@@ -38,8 +38,8 @@ use Rattle.detection.proofs.DetectionClaim.{company-of, someone}
 use Rattle.detection.proofs.RoundKnowledge.{InRound, restart, TurnTaken, turn-in-round}
 use Rattle.latency.specs.Bound.{turns_per_round, RoundWithin}
 
--- what bounds the tests that live stations have made in a round, whoever tests whom: something that holds of live set and table where a round starts,
--- and that turns keep, and crashes
+-- what bounds the tests that live stations have made in a round, whoever tests whom: something that holds of live set and table where a round
+-- starts, and that turns keep, and crashes
 pub record TestsBound (w n : ℕ) : Type 1 where
   pub Fits : (ℕ → Bool) → List ℕ → Type 0
   pub starts : (L : ℕ → Bool) (t : List ℕ) → ((i : ℕ) → i < n → Reset n t i) → Fits L t

@@ -3,7 +3,6 @@
 
 ghost use Rattle.std.specs.Prelude.{◌≡◌, ◌≤◌, ◌*◌};
 ghost use Rattle.table.specs.Sizes.{dimension};
-ghost use Rattle.station.specs.Tests.{unsuspected};
 ghost use Rattle.detection.specs.Claim.{worst_latency};
 ghost use Rattle.latency.specs.Figures.{turns_of, turns_by_row, known_with, most_until_known, FiguresCover};
 
@@ -35,7 +34,7 @@ fn known_with(n: u8, row: &mut [u8], j: Station) -> u32
     ensures turns { result ≡ known_with n row.old j.0 }
     ensures row_unchanged { row.new ≡ row.old }
 {
-    if !is_live(row, j) {
+    if !slots::is_unsuspected(row, j) {
         return 0;
     }
     let at = j.0 as usize;
@@ -77,16 +76,8 @@ fn turns_of(n: u8, row: &[u8], i: Station) -> u32
     ensures turns { result ≡ turns_of n row.now i.0 }
     ensures upper_bound { result ≤ 256 }
 {
-    if !is_live(row, i) {
+    if !slots::is_unsuspected(row, i) {
         return 0;
     }
     slots::list_tests(n, row, i).len() as u32 + 1
-}
-
-// Whether board x is there and not dead.
-#[tactic(auto, unfolding(station::specs::Tests::unsuspected))]
-fn is_live(row: &[u8], x: Station) -> bool
-    ensures { result ≡ unsuspected row.now x.0 }
-{
-    row.get(x.0 as usize).copied().unwrap_or(1) == 0
 }

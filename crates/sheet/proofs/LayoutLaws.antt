@@ -44,5 +44,6 @@ pub sheet_parts : (n : ℕ) (row : List ℕ) (columns : ℕ) → columns ≡ lis
     ++ live_lines (untested_line n row) row n))) ≡ sheet_text n row
 sheet_parts n row columns e =
     let w = list_width n row in
-    rw e (parts (decimal n) (codes " boards, dead:") (dead_text row) (codes "\n") (known_text n row) (codes "\n\n") (tests_head w) (live_lines (tests_line n row w) row n)
+    rw e (parts (decimal n) (codes " boards, dead:") (dead_text row) (codes "\n") (known_text n row) (codes "\n\n") (tests_head w)
+    (live_lines (tests_line n row w) row n)
     (codes "\nboard  whom it does not test (who stands ahead)\n") (live_lines (untested_line n row) row n))

@@ -1,7 +1,9 @@
 -- The row that the named boards make.
 -- Assumes nothing.
-use Rattle.std.proofs.Common.{◌≡◌, ℕ, List, [], ◌∷◌, ◌+◌, ◌-◌, ◌<◌, ◌≤◌, true, false, refl, sym, ap, ◌∙◌, arith, add-one, drop-cons, length-drop, length, map, get_or, drop}
-use Rattle.std.specs.Prelude.{suc, ◌≢◌, ◌==◌, take, count_by, replicate, Option, Some, None, Result, Ok, Err, slice_index_or, slice_set, nat_lt, nat_eq}
+use Rattle.std.proofs.Common.{◌≡◌, ℕ, List, [], ◌∷◌, ◌+◌, ◌-◌, ◌<◌, ◌≤◌, true, false, refl, sym, ap, ◌∙◌, arith, add-one, drop-cons, length-drop}
+use Rattle.std.proofs.Common.{length, map, get_or, drop}
+use Rattle.std.specs.Prelude.{suc, ◌≢◌, ◌==◌, take, count_by, replicate, Option, Some, None, Result, Ok, Err, slice_index_or, slice_set, nat_lt}
+use Rattle.std.specs.Prelude.{nat_eq}
 use Rattle.std.proofs.lemmas.Bool.Decides.{nat_tests}
 use Rattle.input.specs.Input.{station_of}
 use Rattle.sheet.specs.Named.{and_then, row_with, rows_with, with_two_live, plant_of}

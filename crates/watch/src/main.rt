@@ -1,5 +1,6 @@
 // The run program: it reads a size and a schedule from a file or from standard input, carries the schedule out, on the cube or by an option on the
-// ring, on a fresh table with zero tallies and prints the run sheet and the answer. On standard error it says in words what was refused or cannot be read.
+// ring, on a fresh table with zero tallies and prints the run sheet and the answer. On standard error it says in words what was refused or cannot
+// be read.
 #![tactic(auto)]
 
 mod call;

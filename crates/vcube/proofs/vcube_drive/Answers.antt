@@ -1,7 +1,10 @@
 -- What the drive leaves is what its definition says, and of that the laws of lists speak.
+use Rattle.std.proofs.Common.{sym, ap, subst}
 use Rattle.plant.specs.Entry.{state_of}
+use Rattle.granter.specs.Drive.{DriveResult}
 use Rattle.detection.specs.Driven.{a_drive}
 use Rattle.detection.proofs.DrivenDetection.{drive-detects}
+use Rattle.accuracy.specs.Accurate.{AccurateAfter}
 use Rattle.accuracy.proofs.Claims.{last-accurate}
 use Rattle.vcube.proofs.vcube_drive.Goals as goal
 
@@ -12,5 +15,6 @@ returns-clause-detection c =
 
 pub returns-clause-accurate : goal.returns-clause-accurate
 returns-clause-accurate c =
+    let call = a_drive c.args.wiring c.args.n c.args.last.now in
     let before = state_of c.args.table.now c.args.rounds.now c.args.tests.now in
-    rw (← c.drive-driven.ensures.outcome) at (last-accurate (a_drive c.args.wiring c.args.n c.args.last.now) before)
+    subst (AccurateAfter call before) (sym (ap (λ (o : DriveResult). o.state) c.drive-driven.ensures.outcome)) (last-accurate call before)

@@ -30,12 +30,14 @@ pub returns-then-live_boards-lt2 : goal.returns-then-live_boards-lt2
 returns-then-live_boards-lt2 c =
     let i = c.loop-board.invariant in
     let end = rows-end (λ w. w.now) _ c.loop-board.argument _ c.args.boards.now c.loop-board.board-index (omega arith) in
-    let few = few-live c.in-Some.plant.size c.loop-board.plant.row c.live_boards.result (rw i.same at c.live_boards.ensures) c.if-live_boards-lt2.true in
+    let few =
+    few-live c.in-Some.plant.size c.loop-board.plant.row c.live_boards.result (rw i.same at c.live_boards.ensures) c.if-live_boards-lt2.true in
     sym (plant-is _ _ c.in-Some.ensures.size _ _ c.in-Some.ensures.nobody_dead _ (sym i.rest ∙ end) ∙ few)
 
 pub returns : goal.returns
 returns c =
     let i = c.loop-board.invariant in
     let end = rows-end (λ w. w.now) _ c.loop-board.argument _ c.args.boards.now c.loop-board.board-index (omega arith) in
-    let live = two-live c.in-Some.plant.size c.loop-board.plant.row c.live_boards.result (rw i.same at c.live_boards.ensures) c.if-live_boards-lt2.false in
+    let live =
+    two-live c.in-Some.plant.size c.loop-board.plant.row c.live_boards.result (rw i.same at c.live_boards.ensures) c.if-live_boards-lt2.false in
     rw i.same (sym (plant-is _ _ c.in-Some.ensures.size _ _ c.in-Some.ensures.nobody_dead _ (sym i.rest ∙ end) ∙ live))
