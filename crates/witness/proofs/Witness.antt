@@ -1,7 +1,20 @@
 -- The claim is not empty, ends in themselves: the plants of specs/Witness.antt, computed.
 -- Assumes nothing.
-use mathlib.Core.Path.{refl}
+use mathlib.Core.Path.{◌≡◌, refl}
+use mathlib.Core.Bool.{true, not}
+use mathlib.Core.List.{List}
+use Prim.Native.Nat.{ℕ, ◌≤◌}
 use native.Mathlib.Omega.{arith}
+use lib.ListN.{length}
+use Rattle.std.specs.Prelude.{Ok}
+use Rattle.table.specs.Sizes.{is_size}
+use Rattle.table.specs.Wiring.{wiring_check}
+use Rattle.table.specs.Table.{table_length}
+use Rattle.table.specs.Properties.{at_start, live_count, none_suspected}
+use Rattle.plant.specs.Entry.{State}
+use Rattle.detection.specs.Runs.{Call, taken_all, crashes, is_late, is_on}
+use Rattle.detection.specs.Rounds.{all_taken}
+use Rattle.detection.specs.Claim.{DetectionPremises}
 use Rattle.witness.specs.Witness.{turns_of, boards, calls, FourBoards, ThreeBoards, ring_boards, ring_calls, FourOnRing}
 use Rattle.witness.proofs.Computing.{whole_list}
 
