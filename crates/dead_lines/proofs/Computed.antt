@@ -6,25 +6,10 @@ use Prim.Native.Nat.{ℕ, ◌<◌}
 use native.Mathlib.Omega.{arith}
 use borrow.Author.Tests.{eqb-true}
 use lib.Dec.{eqb}
-use Rattle.lists.specs.Bytes.{joined_byte}
-use Rattle.lists.specs.Search.{least, every, list_of}
-use Rattle.lists.specs.Steps.{after_steps}
+use Rattle.lists.specs.Search.{every}
 use Rattle.lists.proofs.SearchLaws.{every-at}
-use Rattle.table.specs.Sizes.{is_size, level, dimension, distances}
-use Rattle.table.specs.Wiring.{end_distance}
-use Rattle.table.specs.Table.{stride, table_length, line_start, cell, set_cell, status, live, row, set_row}
-use Rattle.table.specs.Rules.{exit_rule, row_rule, wired_line_rules, some_live, live_finished, shape_check, table_check_on}
-use Rattle.station.specs.Groups.{width, member, full_group, group}
-use Rattle.station.specs.Wired.{wired_station, wired_due}
-use Rattle.station.specs.Tests.{unsuspected, first_place, first, answer, due}
-use Rattle.station.specs.Rows.{union_byte, union, mark}
-use Rattle.plant.specs.Turn.{leave_told, next_test, makes_test, finish_pass, count_test, replies, is_told, exchange_rows, suspect, reply_outcome}
-use Rattle.station.specs.Wired.{next_after}
-use Rattle.plant.specs.Turn.{test_outcome, after_outcome, self_or_suspected, is_alone, after_alone}
-use Rattle.plant.specs.Turn.{after_test, testing, turn, turn_tested, turn_outcome, crash}
-use Rattle.plant.specs.Round.{rounds_after, reset_line, reset_lines, after_round}
-use Rattle.plant.specs.Entry.{entry_check, acted, after, tested_of, outcome_of, sheet_line}
-use Rattle.plant.specs.Run.{entries, go_on, start_check, run}
+use Rattle.table.specs.Table.{stride, line_start, cell, status, live}
+use Rattle.plant.proofs.WholeRun.{whole_run}
 use Rattle.dead_lines.specs.Pair.{worked, other, WorkedPair, EachIsNeeded}
 
 -- what is compared, as tests
@@ -49,12 +34,7 @@ line-same : (i : ℕ) → i < 4 → live 4 worked i ≡ true → every (same_byt
 line-same i h l = rw l at (every-at same_line 4 i lines-same h)
 
 pub worked-pair : WorkedPair
-unfolding rounds_after leave_told run start_check table_check_on shape_check is_size table_length every wired_line_rules end_distance exit_rule
-    row_rule some_live live_finished cell line_start row set_row set_cell list_of go_on entries entry_check after acted sheet_line tested_of
-    outcome_of turn turn_tested turn_outcome crash reset_line reset_lines after_round after_steps next_test makes_test finish_pass next_after
-    count_test replies is_told exchange_rows suspect reply_outcome test_outcome after_outcome self_or_suspected is_alone after_alone after_test
-    testing answer wired_station wired_due due first first_place least unsuspected member width level dimension distances group full_group union
-    union_byte joined_byte mark
+unfolding whole_run
 worked-pair = record {
   alike = record {
     valid = refl;
@@ -71,10 +51,5 @@ worked-pair = record {
 }
 
 pub each-is-needed : EachIsNeeded
-unfolding rounds_after leave_told run start_check table_check_on shape_check is_size table_length every wired_line_rules end_distance exit_rule
-    row_rule some_live live_finished cell line_start row set_row set_cell list_of go_on entries entry_check after acted sheet_line tested_of
-    outcome_of turn turn_tested turn_outcome crash reset_line reset_lines after_round after_steps next_test makes_test finish_pass next_after
-    count_test replies is_told exchange_rows suspect reply_outcome test_outcome after_outcome self_or_suspected is_alone after_alone after_test
-    testing answer wired_station wired_due due first first_place least unsuspected member width level dimension distances group full_group union
-    union_byte joined_byte mark
+unfolding whole_run
 each-is-needed = record { fresh = refl; live_line = refl; status = refl; valid = refl }
