@@ -18,18 +18,11 @@ use Rattle.lists.proofs.SearchLaws.{both}
 use Rattle.plant.specs.Turn.{kind_turn}
 use Rattle.plant.specs.Entry.{Entry}
 use Rattle.plant.proofs.WholeRun.{whole_run}
-use Rattle.lists.specs.Search.{every, list_of, least}
+use Rattle.lists.specs.Search.{list_of}
 use Rattle.lists.specs.Sums.{sum_below}
-use Rattle.lists.specs.Bytes.{joined_byte}
-use Rattle.table.specs.Wiring.{wiring_cube, wiring_ring, end_distance}
+use Rattle.table.specs.Wiring.{wiring_cube, wiring_ring}
 use Rattle.table.specs.Fresh.{fresh_byte}
 use Rattle.table.specs.Line.{row_of, with_row}
-use Rattle.table.specs.Sizes.{is_size, level, dimension, distances}
-use Rattle.table.specs.Rules.{exit_rule}
-use Rattle.station.specs.Groups.{width, member}
-use Rattle.station.specs.Wired.{wired_station, wired_due, next_after}
-use Rattle.station.specs.Tests.{unsuspected, first_place, first, answer, due}
-use Rattle.station.specs.Rows.{union_byte, union, mark}
 use Rattle.board.specs.Board.{suspicion_of, next_of, tests, tested, next_station, pass_finished, counted, left_told, joined, suspecting, alone}
 use Rattle.board.specs.Board.{after_alone, outcome_of, after_outcome, tested_at, turn_of, outcome, round_closed}
 use Rattle.board.specs.Packed.{bits, packed_byte, pack, heard_byte, heard}

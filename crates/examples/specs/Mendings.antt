@@ -1,7 +1,7 @@
 -- Examples of mending, in a table: what the definitions compute, and what is expected. One statement covers it. Plants of two boards: a line has
 -- eight bytes, and the end distance is 2.
 -- Assumes nothing.
-use Rattle.std.specs.Prelude.{refl, List, [], ◌∷◌, ◌++◌, flat_map, replicate, ℕ, ◌+◌, Result, Ok, Err}
+use Rattle.std.specs.Prelude.{refl, List, [], ◌∷◌, ◌++◌, flat_map, replicate, ℕ, Result, Ok, Err}
 use Rattle.lists.specs.Refusal.{number_of}
 use Rattle.lists.specs.declared.refusal.Refusal.{Refusal}
 use Rattle.table.specs.Wiring.{wiring_cube}

@@ -1,6 +1,6 @@
 -- How wide numbers are that are printed.
 -- Assumes nothing.
-use Rattle.std.specs.Prelude.{ℕ, ◌+◌, ◌*◌, ◌-◌, ◌&&◌, List, [], ◌∷◌, length, sum_by, Option, None, Some, nat_lt, nat_le, if◌then◌else◌}
+use Rattle.std.specs.Prelude.{ℕ, ◌+◌, ◌-◌, List, length, sum_by, nat_lt, if◌then◌else◌}
 use Rattle.lists.specs.Search.{greatest}
 use Rattle.station.specs.Tests.{unsuspected}
 use Rattle.slots.specs.Slots.{tested}
