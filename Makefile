@@ -5,21 +5,25 @@ SHELL := /bin/bash
 .DELETE_ON_ERROR:
 MAKEFLAGS += --no-builtin-rules
 
+# Where `make install` installs, below DESTDIR; DOCDIR is where the page goes below PREFIX.
 PREFIX ?= /usr/local
+DOCDIR ?= share/doc/vcube
 programs := watch sheet convert
-# The archive in VCUBE_LIB_DIR is used as it is, where that is set.
+# The archive in VCUBE_LIB_DIR and the programs in VCUBE_BIN_DIR are used as they are, where those are set.
 ifdef VCUBE_LIB_DIR
-archive := $(VCUBE_LIB_DIR)/libvcube.a
+archive := $(abspath $(VCUBE_LIB_DIR))/libvcube.a
 else
 archive := target/staticlib/libvcube.a
 export VCUBE_LIB_DIR := $(CURDIR)/target/staticlib
 endif
+program_folder := $(or $(abspath $(VCUBE_BIN_DIR)),target/bin)
 export CARGO_TARGET_DIR ?= $(CURDIR)/target/cargo
 
-.PHONY: all help archive programs aarch64 wasm portable portable-board page plant kept-page install install-programs uninstall words layers FORCE
-all: archive programs ## the archive and the three programs
+.PHONY: all help archive shared programs aarch64 wasm portable portable-board page plant kept-page install install-library install-programs \
+    uninstall words layers FORCE
+all: archive shared programs ## the archive, the shared library and the three programs
 archive: $(archive) ## target/staticlib/libvcube.a, for C, C++ and Rust on x86-64
-programs: $(programs:%=target/bin/%) ## target/bin/watch, sheet and convert
+programs: $(programs:%=$(program_folder)/%) ## target/bin/watch, sheet and convert
 aarch64: target/aarch64/libvcube.a ## target/aarch64/libvcube.a, the archive for Linux on 64-bit ARM
 wasm: target/wasm/vcube.wasm ## target/wasm/vcube.wasm, a WebAssembly module with 32-bit memory
 portable: target/portable/vcube_portable.c ## target/portable/, C for any C99 compiler: compile vcube_portable.c there
@@ -47,7 +51,7 @@ made_of = $(if $(is_program),target/bin/$1,$(if $(kind_$1),target/staticlib/lib$
 # The crates that the goals need, each behind those that it uses. rt works on one at a time in a repository, so they wait for each other.
 asked := $(or $(MAKECMDGOALS),all)
 of_programs := programs install-programs test-programs $(programs:%=target/bin/%)
-with_programs := all before-rt-ci test-mutants test-plant $(of_programs)
+with_programs := all install before-rt-ci test-package test-mutants test-plant $(of_programs)
 roots := $(if $(filter-out $(of_programs),$(asked)),vcube) \
     $(if $(filter $(with_programs),$(filter-out target/bin/%,$(asked))),$(programs)) $(notdir $(filter target/bin/%,$(asked)))
 needed := $(call with_below,$(roots))
@@ -173,28 +177,36 @@ target/plant/hub: $(archive) include/vcube.h $(wildcard bindings/node/*.[ch] bin
 
 # --- Installing.
 
-version = $(shell sed -n 's/^\#define VCUBE_VERSION "\(.*\)"$$/\1/p' include/vcube.h)
-to = $(DESTDIR)$(if $(filter /%,$(PREFIX)),,$(error PREFIX is a path from the root on, not '$(PREFIX)'))$(PREFIX)
+# version, to, the rule of the shared library, and what of the library is installed.
+include packaging/library.mk
 
-install: archive ## vcube.h, libvcube.a and vcube.pc below DESTDIR and PREFIX (/usr/local)
-	@install -D -m 644 include/vcube.h "$(to)/include/vcube.h"
-	install -D -m 644 "$(archive)" "$(to)/lib/libvcube.a"
-	mkdir -p "$(to)/lib/pkgconfig"
-	sed 's|@PREFIX@|$(PREFIX)|; s|@VERSION@|$(version)|' bindings/c/vcube.pc.in >"$(to)/lib/pkgconfig/vcube.pc"
+shared: $(shared) ## target/shared/, the archive as a shared library
+
+install: install-library install-programs ## library, programs, manual pages and the page, below DESTDIR and PREFIX (/usr/local)
+
+install-library: archive shared ## of these the headers, archive, shared library, what pkg-config and CMake read, and the manual pages of the calls
+	@$(install_library)
 	echo "vcube $(version) is installed below $(to)"
 
-install-programs: programs ## vcube-watch, vcube-sheet and vcube-convert, below bin/ there
-	@for name in $(programs); do install -D -m 755 target/bin/$$name "$(to)/bin/vcube-$$name"; done
+install-programs: programs ## of these vcube-watch, vcube-sheet and vcube-convert, their manual pages, and vcube.html
+	@for name in $(programs); do
+	    install -D -m 755 "$(program_folder)/$$name" "$(to)/bin/vcube-$$name"
+	    install -D -m 644 man/vcube-$$name.1 "$(to)/share/man/man1/vcube-$$name.1"
+	done
+	install -D -m 644 docs/vcube.html "$(to)/$(DOCDIR)/vcube.html"
 	echo "vcube-watch, vcube-sheet and vcube-convert are installed below $(to)"
 
-uninstall: ## removes what these two installed
-	@rm -f "$(to)"/include/vcube.h "$(to)"/lib/libvcube.a "$(to)"/lib/pkgconfig/vcube.pc $(programs:%="$(to)"/bin/vcube-%)
+uninstall: ## removes what these installed
+	@$(uninstall_library)
+	rm -f $(foreach name,$(programs),"$(to)/bin/vcube-$(name)" "$(to)/share/man/man1/vcube-$(name).1") "$(to)/$(DOCDIR)/vcube.html"
+	if [[ -d "$(to)/$(DOCDIR)" ]]; then rmdir --ignore-fail-on-non-empty "$(to)/$(DOCDIR)"; fi
 	echo "vcube is not installed below $(to)"
 
 # --- What is made and kept.
 
 words: ## the enums of header and binding, and the table of refusals in RULES, from the library's source
 	@tests/words --write
+	man/check --write
 
 layers: ## docs/layers.svg, from crates.txt
 	@docs/draw-layers
@@ -202,7 +214,7 @@ layers: ## docs/layers.svg, from crates.txt
 # --- The tests, in steps. ./test runs them, and says what each is; one by itself is make test-words.
 
 steps := shellcheck layers pages words format rust-format archive mutants compare portable programs page c plant rust-tests linked-tests clippy \
-    kept-page rt-ci
+    package kept-page rt-ci
 .PHONY: list-steps before-rt-ci test $(steps:%=test-%)
 
 test: ## all tests: ./test, which also runs some of them
@@ -223,7 +235,7 @@ endef
 # COMMAND, COMMANDS: if there is that of cargo's
 of_cargo = $(call step,if cargo $1 --version >/dev/null 2>&1; then $2; else echo 'skipped: this cargo has no $1'; fi)
 # The Rust packages that link the archive.
-linking := vcube bench
+linking := vcube vcube-sys replay-typed bench
 
 test-shellcheck:
 	@$(call step,! tests/packages shellcheck || git grep --untracked -lE '^#!/.*sh$$|^# shellcheck shell=' | xargs shellcheck)
@@ -232,7 +244,7 @@ test-layers:
 test-pages:
 	@$(call step,tests/pages && tests/edits --self-test)
 test-words:
-	@$(call step,tests/words)
+	@$(call step,tests/words && man/check)
 test-format:
 	@$(call step,git ls-files -z 'crates/*.rt' 'crates/*.antt' | xargs -0 rattle fmt --check)
 test-rust-format:
@@ -250,10 +262,12 @@ test-programs: programs
 	@$(call step,tests/programs/run)
 test-page: page
 	@$(call step,tests/page)
-test-c: archive
+test-c: archive shared
 	@$(call step,bindings/c/run)
 test-plant: archive plant target/bin/watch
 	@$(call step,bindings/node/run && tests/plant/run)
+test-package: archive shared programs
+	@$(call step,VCUBE_BIN_DIR=$(abspath $(program_folder)) tests/package)
 test-rust-tests:
 	@$(call step,cargo test --workspace $(linking:%=--exclude=%) --offline --locked --quiet)
 test-linked-tests: archive

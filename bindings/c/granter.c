@@ -1,7 +1,7 @@
 /* A bus master that grants the turns, by the C interface of the library: drives over a plant of 8 boards until a dead one is known by all the
  * others, and beside each drive the same round made grant by grant and turn by turn. */
 
-#include "vcube.h"
+#include "vcube_plant.h"
 
 #include <inttypes.h>
 #include <stdio.h>
@@ -19,43 +19,32 @@ static const uint8_t beforehand[] = {
     VCUBE_KIND_CRASH, DEAD,
 };
 
-/* What a bus master keeps. */
-struct plant {
-    uint8_t table[VCUBE_TABLE_LENGTH(N)];
-    uint32_t rounds;
-    uint32_t tests;
-    size_t last;
-};
-
 /* Says which call was refused; gives whether it was. */
-static int refused(const char *call, uint8_t number)
+static int refused(const char *call, unsigned number)
 {
     if (number != VCUBE_ACCEPTED)
-        printf("%s: refused with %d\n", call, number);
+        printf("%s: refused with %u\n", call, number);
     return number != VCUBE_ACCEPTED;
 }
 
 /* Runs a schedule; gives whether an entry was refused. */
-static int run(struct plant *plant, const uint8_t *schedule, size_t length)
+static int run(struct vcube_plant *plant, const uint8_t *schedule, size_t length)
 {
     uint8_t sheet[2 * sizeof beforehand]; /* long enough for every schedule here */
     size_t taken;
 
-    return refused("run", vcube_run(VCUBE_WIRING_CUBE, N, plant->table, sizeof plant->table, &plant->rounds, &plant->tests, schedule,
-                                    length, sheet, 2 * length, &taken));
+    return refused("run", vcube_plant_run(plant, schedule, length, sheet, 2 * length, &taken));
 }
 
 /* One grant and its turn; prints who was granted. */
-static int grant_turn(struct plant *plant)
+static int grant_turn(struct vcube_plant *plant)
 {
-    uint8_t entry[2] = {VCUBE_KIND_TURN, 0};
     size_t station;
 
-    if (refused("grant", vcube_grant(VCUBE_WIRING_CUBE, N, plant->table, sizeof plant->table, plant->last, &station)))
+    if (refused("grant", vcube_plant_grant(plant, &station)))
         return 1;
     printf(" %zu", station);
-    entry[1] = (uint8_t)station;
-    if (run(plant, entry, sizeof entry))
+    if (refused("run", vcube_plant_enter(plant, VCUBE_KIND_TURN, station, NULL)))
         return 1;
     /* Kept only now that the turn was taken, as a drive does. */
     plant->last = station;
@@ -63,7 +52,7 @@ static int grant_turn(struct plant *plant)
 }
 
 /* Grants turns until the round closes; how many into *grants. */
-static int grant_round(struct plant *plant, size_t *grants)
+static int grant_round(struct vcube_plant *plant, size_t *grants)
 {
     const uint32_t rounds = plant->rounds;
 
@@ -75,21 +64,22 @@ static int grant_round(struct plant *plant, size_t *grants)
     return 0;
 }
 
-static int same(const struct plant *one, const struct plant *other)
+static int same(const struct vcube_plant *one, const struct vcube_plant *other)
 {
-    return memcmp(one->table, other->table, sizeof one->table) == 0 && one->rounds == other->rounds && one->tests == other->tests &&
+    return memcmp(one->table, other->table, one->table_length) == 0 && one->rounds == other->rounds && one->tests == other->tests &&
            one->last == other->last;
 }
 
 /* A drive, and the same round turn by turn on a copy of the plant. */
-static int drive(struct plant *plant)
+static int drive(struct vcube_plant *plant)
 {
-    struct plant copy = *plant;
+    uint8_t memory[VCUBE_TABLE_LENGTH(N)];
+    struct vcube_plant copy = *plant;
     size_t grants, turns;
 
-    if (grant_round(&copy, &turns) ||
-        refused("drive", vcube_drive(VCUBE_WIRING_CUBE, N, plant->table, sizeof plant->table, &plant->rounds, &plant->tests,
-                                     &plant->last, &grants)))
+    copy.table = memory;
+    memcpy(copy.table, plant->table, plant->table_length);
+    if (grant_round(&copy, &turns) || refused("drive", vcube_plant_drive(plant, &grants)))
         return 1;
     printf("drive: rounds %" PRIu32 " tests %" PRIu32 " last %zu grants %zu\n", plant->rounds, plant->tests, plant->last, grants);
     if (!same(plant, &copy) || grants != turns) {
@@ -99,25 +89,23 @@ static int drive(struct plant *plant)
     return 0;
 }
 
-/* How many boards suspect the dead one, which does not suspect itself; N where a row is refused. */
-static size_t known_by(const struct plant *plant)
+/* How many boards suspect the dead one, which does not suspect itself. */
+static size_t known_by(const struct vcube_plant *plant)
 {
-    size_t many = 0, start, length;
+    size_t many = 0;
 
-    for (size_t station = 0; station < N; station++) {
-        if (refused("row", vcube_row(VCUBE_WIRING_CUBE, N, plant->table, sizeof plant->table, station, &start, &length)))
-            return N;
-        many += plant->table[start + DEAD];
-    }
+    for (size_t station = 0; station < N; station++)
+        many += vcube_plant_suspects(plant, station, DEAD) ? 1 : 0;
     return many;
 }
 
 int main(void)
 {
-    struct plant plant = {{0}, 0, 0, VCUBE_NO_STATION};
+    uint8_t memory[VCUBE_TABLE_LENGTH(N)];
+    struct vcube_plant plant;
     size_t known = 0;
 
-    if (refused("fresh table", vcube_fresh_table(VCUBE_WIRING_CUBE, N, plant.table, sizeof plant.table)) ||
+    if (refused("fresh table", vcube_plant_fresh(&plant, VCUBE_WIRING_CUBE, N, memory, sizeof memory)) ||
         run(&plant, beforehand, sizeof beforehand))
         return 1;
     for (int drives = 0; drives < MOST_DRIVES && known < N - 1; drives++) {

@@ -3,7 +3,7 @@
  * cut off, and an old file of edition 1, which is converted before it is loaded. Of each plant the panel says which boards are not live, who
  * told them to leave and how many rounds ago. */
 
-#include "vcube.h"
+#include "vcube_plant.h"
 
 #include <inttypes.h>
 #include <stdio.h>
@@ -40,113 +40,101 @@ static const uint8_t stored[] = {
     VCUBE_TAG_SIZE, 0, 1, 3,
 };
 
-/* A plant of any size. */
-struct plant {
-    size_t n;
-    uint8_t table[VCUBE_TABLE_LENGTH(MOST)];
-    uint32_t rounds;
-    uint32_t tests;
-};
-
-static struct plant running, panel;
+/* Two plants, each in a memory for any size. */
+static uint8_t running_memory[VCUBE_TABLE_LENGTH(MOST)], panel_memory[VCUBE_TABLE_LENGTH(MOST)];
+static struct vcube_plant running, panel;
 static uint8_t saved[VCUBE_SAVED_LENGTH(MOST)], other[VCUBE_SAVED_LENGTH(MOST)];
 
 /* Says which call was refused; gives whether it was. */
-static int refused(const char *call, uint8_t number)
+static int refused(const char *call, unsigned number)
 {
     if (number != VCUBE_ACCEPTED)
-        printf("%s: refused with %d\n", call, number);
+        printf("%s: refused with %u\n", call, number);
     return number != VCUBE_ACCEPTED;
 }
 
 /* A fresh plant after the four entries above. */
-static int run_example(struct plant *plant)
+static int run_example(void)
 {
     uint8_t sheet[2 * sizeof example];
     size_t taken;
 
-    plant->n = N;
-    plant->rounds = plant->tests = 0;
-    return refused("fresh table", vcube_fresh_table(VCUBE_WIRING_CUBE, N, plant->table, VCUBE_TABLE_LENGTH(N))) ||
-           refused("run", vcube_run(VCUBE_WIRING_CUBE, N, plant->table, VCUBE_TABLE_LENGTH(N), &plant->rounds, &plant->tests, example,
-                                    sizeof example, sheet, sizeof sheet, &taken));
+    return refused("fresh table", vcube_plant_fresh(&running, VCUBE_WIRING_CUBE, N, running_memory, sizeof running_memory)) ||
+           refused("run", vcube_plant_run(&running, example, sizeof example, sheet, sizeof sheet, &taken));
 }
 
-static int save(const struct plant *plant, uint8_t *buffer)
+static int save(const struct vcube_plant *plant, uint8_t *buffer)
 {
-    const size_t n = plant->n;
-
-    return refused("save", vcube_save(n, plant->table, VCUBE_TABLE_LENGTH(n), plant->rounds, plant->tests, buffer, VCUBE_SAVED_LENGTH(n)));
+    return refused("save", vcube_plant_save(plant, buffer, VCUBE_SAVED_LENGTH(plant->n)));
 }
 
-/* Asks for the size first: the table is lent with just the length for it. */
-static int load(const uint8_t *file, size_t length, struct plant *plant)
+/* Into the panel's memory. The size is asked for first, as a panel does that gets its memory by it. */
+static int load(const uint8_t *file, size_t length)
 {
     size_t n;
 
     return refused("saved size", vcube_saved_size(file, length, &n)) ||
-           refused("load", vcube_load(file, length, plant->table, VCUBE_TABLE_LENGTH(n), &plant->n, &plant->rounds, &plant->tests));
+           refused("load", vcube_plant_load(&panel, VCUBE_WIRING_CUBE, panel_memory, VCUBE_TABLE_LENGTH(n), file, length));
 }
 
 /* Converts an old file and loads what it becomes. The length is asked for first. */
-static int convert(const uint8_t *file, size_t length, struct plant *plant)
+static int convert(const uint8_t *file, size_t length)
 {
     size_t converted;
 
     return refused("converted length", vcube_converted_length(file, length, &converted)) ||
-           refused("convert", vcube_convert(file, length, saved, converted)) || load(saved, converted, plant);
+           refused("convert", vcube_convert(file, length, saved, converted)) || load(saved, converted);
 }
 
 /* The rest of the round. The last granted number is not saved: the bus master begins anew. */
-static int drive(struct plant *plant)
+static int drive(struct vcube_plant *plant)
 {
-    const size_t n = plant->n;
-    size_t last = VCUBE_NO_STATION, grants;
+    size_t grants;
 
-    return refused("drive", vcube_drive(VCUBE_WIRING_CUBE, n, plant->table, VCUBE_TABLE_LENGTH(n), &plant->rounds, &plant->tests, &last,
-                                        &grants));
+    return refused("drive", vcube_plant_drive(plant, &grants));
 }
 
-/* Why a board is not live, from its line: bytes 0 and 4. */
+/* Why a board is not live, from its line. */
 static void print_why(const uint8_t *line)
 {
-    if (line[0] == VCUBE_STATUS_CRASHED)
+    if (vcube_line_status(line) == VCUBE_STATUS_CRASHED)
         printf("crashed");
-    else if (line[0] == VCUBE_STATUS_ALONE)
+    else if (vcube_line_status(line) == VCUBE_STATUS_ALONE)
         printf("left because alone");
-    else if (line[4] == VCUBE_TOLD_NOT_RECORDED)
+    else if (vcube_line_told_by(line) == VCUBE_TOLD_NOT_RECORDED)
         printf("was told to leave, by whom is not recorded");
     else
-        printf("was told to leave by board %d", line[4]);
+        printf("was told to leave by board %d", vcube_line_told_by(line));
 }
 
-/* How long ago that was, from byte 5 of the line, which stops at 255. */
+/* How long ago that was: the count stops at 255. */
 static void print_how_long_ago(const uint8_t *line)
 {
-    if (line[5] == 0)
+    const uint8_t rounds = vcube_line_rounds_ago(line);
+
+    if (rounds == 0)
         printf("in this round");
     else
-        printf("%d round%s ago%s", line[5], line[5] == 1 ? "" : "s", line[5] == 255 ? " or more" : "");
+        printf("%d round%s ago%s", rounds, rounds == 1 ? "" : "s", rounds == 255 ? " or more" : "");
 }
 
 /* The tally, and a line for each board that is not live. */
-static void print_plant(const char *what, const struct plant *plant)
+static void print_plant(const char *what, const struct vcube_plant *plant)
 {
     printf("%s: boards %zu rounds %" PRIu32 " tests %" PRIu32 "\n", what, plant->n, plant->rounds, plant->tests);
     for (size_t station = 0; station < plant->n; station++) {
-        const uint8_t *line = plant->table + station * (plant->n + VCUBE_HEAD);
-        if (line[0] == VCUBE_STATUS_LIVE)
+        if (vcube_plant_is_live(plant, station))
             continue;
         printf("board %zu ", station);
-        print_why(line);
+        print_why(vcube_plant_line(plant, station));
         printf(", ");
-        print_how_long_ago(line);
+        print_how_long_ago(vcube_plant_line(plant, station));
         printf("\n");
     }
 }
 
 /* Saves the plant and prints the saved plant in hexadecimal, a line for each field. */
-static int print_saved(const struct plant *plant)
+static int print_saved(const struct vcube_plant *plant)
 {
     size_t length = VCUBE_SAVED_LENGTH(plant->n), next = 0;
 
@@ -174,19 +162,19 @@ static int same(void)
 
 int main(void)
 {
-    if (run_example(&running) || print_saved(&running) || load(saved, VCUBE_SAVED_LENGTH(N), &panel))
+    if (run_example() || print_saved(&running) || load(saved, VCUBE_SAVED_LENGTH(N)))
         return 1;
     print_plant("loaded", &panel);
     if (drive(&running) || drive(&panel) || !same())
         return 1;
     print_plant("driven", &panel);
-    if (print_saved(&panel) || load(elsewhere, sizeof elsewhere, &panel))
+    if (print_saved(&panel) || load(elsewhere, sizeof elsewhere))
         return 1;
     print_plant("loaded from elsewhere", &panel);
-    if (print_saved(&panel) || !load(elsewhere, sizeof elsewhere - 1, &panel) || !load(stored, sizeof stored, &panel))
+    if (print_saved(&panel) || !load(elsewhere, sizeof elsewhere - 1) || !load(stored, sizeof stored))
         return 1;
-    if (convert(stored, sizeof stored, &panel))
+    if (convert(stored, sizeof stored))
         return 1;
     print_plant("converted and loaded", &panel);
-    return print_saved(&panel) || !convert(elsewhere, sizeof elsewhere, &panel);
+    return print_saved(&panel) || !convert(elsewhere, sizeof elsewhere);
 }

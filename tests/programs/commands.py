@@ -13,7 +13,7 @@ import tempfile
 from case import Case, call, difference
 from words import ROOT, sample
 
-COPIED = ['watch', 'sheet', 'convert', 'Makefile']
+COPIED = ['watch', 'sheet', 'convert', 'Makefile', 'packaging/library.mk', 'include/vcube.h']
 RT = '''#!/bin/sh
 [ "$1" = version ] && echo 'rt 1' && exit
 [ -e broken ] && echo 'fn half: no proof' && exit 1
@@ -84,7 +84,8 @@ def check(case):
 
 def lay_out(name, small):
     for command in COPIED:
-        shutil.copy(os.path.join(ROOT, command), small)
+        os.makedirs(os.path.join(small, os.path.dirname(command)), exist_ok=True)
+        shutil.copy(os.path.join(ROOT, command), os.path.join(small, command))
     files = {'bin/rt': RT, f'crates/{name}/src/main.rt': PROGRAM, 'crates/low/src/lib.rt': '\n', 'crates/between/src/lib.rt': '\n',
              'crates.txt': f'low: # used by both others\nbetween: low\n{name}: between low\n'}
     for path, text in files.items():

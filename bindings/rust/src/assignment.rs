@@ -3,7 +3,7 @@
 use crate::{Distance, Refusal, Station, accepted, raw};
 
 /// Stands in an entry of an assignment's list whose distance is due.
-pub const DUE: u8 = 255;
+pub const DUE: u8 = vcube_sys::VCUBE_DUE;
 
 /// Whether a distance is due for a station.
 #[derive(Clone, Copy, Debug, PartialEq, Eq, Hash)]
@@ -20,11 +20,12 @@ pub enum DueOrAhead {
 pub struct AssignmentEntry {
     /// The distance at which the other station is.
     pub distance: Distance,
+    /// What it says of that distance.
     pub answer: DueOrAhead,
 }
 
 impl AssignmentEntry {
-    fn from_bytes([distance, answer]: [u8; 2]) -> AssignmentEntry {
+    pub(crate) fn from_bytes([distance, answer]: [u8; 2]) -> AssignmentEntry {
         AssignmentEntry {
             distance: Distance(distance),
             answer: match answer {
@@ -51,7 +52,13 @@ pub const fn assignment_length(n: usize) -> usize {
 /// and [`DUE`] or else the station that is ahead. Gives how many are due.
 /// Suspected stations and ones that are not live have an entry too, and the
 /// next distance makes no difference.
-/// Refusals: 1 to 4, 9, 10, 13.
+///
+/// # Errors
+///
+/// [`Refusal::SizeOutOfRange`], [`Refusal::TableLength`], [`Refusal::LineRule`], [`Refusal::RoundNotClosed`],
+/// [`Refusal::NoSuchStation`], [`Refusal::NotLive`] or [`Refusal::ListLength`].
+///
+/// # Example
 ///
 /// ```
 /// use vcube::{Station, Wiring, DUE};
@@ -75,7 +82,13 @@ pub fn assignment(
 
 /// The entries of an [`assignment`], by ascending distance, read from the list that
 /// is lent.
-/// Refusals: 1 to 4, 9, 10, 13.
+///
+/// # Errors
+///
+/// [`Refusal::SizeOutOfRange`], [`Refusal::TableLength`], [`Refusal::LineRule`], [`Refusal::RoundNotClosed`],
+/// [`Refusal::NoSuchStation`], [`Refusal::NotLive`] or [`Refusal::ListLength`].
+///
+/// # Example
 ///
 /// ```
 /// use vcube::{DueOrAhead, Station, Wiring};
@@ -101,7 +114,13 @@ pub fn assignment_entries<'a>(
 }
 
 /// The distances of an [`assignment`] that are due, ascending.
-/// Refusals: 1 to 4, 9, 10, 13.
+///
+/// # Errors
+///
+/// [`Refusal::SizeOutOfRange`], [`Refusal::TableLength`], [`Refusal::LineRule`], [`Refusal::RoundNotClosed`],
+/// [`Refusal::NoSuchStation`], [`Refusal::NotLive`] or [`Refusal::ListLength`].
+///
+/// # Example
 ///
 /// ```
 /// use vcube::{Distance, Station, Wiring};

@@ -4,16 +4,15 @@ use core::fmt;
 use core::ops::Deref;
 
 use crate::entries::NO_STATION;
-use crate::{HEAD, Outcome, Refusal, Station, Status, Wiring, accepted, number_of, raw};
-
-/// The most boards of a plant.
-const MOST_BOARDS: usize = 64;
+use crate::{
+    HEAD, MOST_STATIONS, Outcome, Refusal, Station, Status, Wiring, accepted, number_of, raw,
+};
 
 /// The length of the longest line.
-const LONGEST_LINE: usize = line_length(MOST_BOARDS);
+const LONGEST_LINE: usize = line_length(MOST_STATIONS);
 
 /// The length of the longest packed row.
-const LONGEST_PACKED: usize = packed_length(MOST_BOARDS);
+const LONGEST_PACKED: usize = packed_length(MOST_STATIONS);
 
 /// The length of a board's line in a plant of n.
 /// It has no meaning for a size that the library refuses.
@@ -68,7 +67,7 @@ impl fmt::Debug for PackedRow {
 
 /// A board of a plant and its own line, which keeps the line rules: it was made by
 /// [`new`](Board::new) or checked by [`from_line`](Board::from_line), and from such a
-/// line no call leaves one that the next refuses with 25 or 3 (Rule Line kept).
+/// line no call leaves one that the next refuses (Rule Line kept).
 ///
 /// In its turn a board asks for its [`next`](Board::next) test. If there is one, it
 /// sends that board a test, and if that board is live, it replies with its
@@ -120,7 +119,12 @@ pub struct Board {
 impl Board {
     /// Board, fresh: board `own` of a plant of n, with a line of a fresh table. Not after a
     /// reset in service: a board that left would be live again.
-    /// Refusals: 1, 9.
+    ///
+    /// # Errors
+    ///
+    /// [`Refusal::SizeOutOfRange`] or [`Refusal::NoSuchStation`].
+    ///
+    /// # Example
     ///
     /// ```
     /// use vcube::{Board, Refusal, Station, Wiring};
@@ -140,7 +144,13 @@ impl Board {
     }
 
     /// The board with this line, which was kept, or is of a table.
-    /// Refusals: 1, 9, 25, 3.
+    ///
+    /// # Errors
+    ///
+    /// [`Refusal::SizeOutOfRange`], [`Refusal::NoSuchStation`], [`Refusal::LineLength`] or
+    /// [`Refusal::LineRule`].
+    ///
+    /// # Example
     ///
     /// ```
     /// use vcube::{Board, Refusal, Station, Wiring};
@@ -204,7 +214,12 @@ impl Board {
 
     /// Board, next: the board that the next turn tests; none where the turn finishes
     /// the pass.
-    /// Refusals: 10, 11.
+    ///
+    /// # Errors
+    ///
+    /// [`Refusal::NotLive`] or [`Refusal::PassFinished`].
+    ///
+    /// # Example
     ///
     /// ```
     /// use vcube::{Board, Station, Wiring};
@@ -221,7 +236,12 @@ impl Board {
 
     /// Board, row: the board's row, packed, as a reply or an exchange. A board that is
     /// not live is refused, and sends no row.
-    /// Refusals: 10.
+    ///
+    /// # Errors
+    ///
+    /// [`Refusal::NotLive`].
+    ///
+    /// # Example
     ///
     /// ```
     /// use vcube::{Board, Station, Wiring};
@@ -241,7 +261,12 @@ impl Board {
     /// Board, replied: the turn, with the reply of the board that [`Board::next`] gives;
     /// its outcome. Where that gives none, the turn finishes the pass, and of the reply
     /// only the length is looked at. Any bytes of the length [`packed_length`] are a row.
-    /// Refusals: 10, 11, 13.
+    ///
+    /// # Errors
+    ///
+    /// [`Refusal::NotLive`], [`Refusal::PassFinished`] or [`Refusal::ListLength`].
+    ///
+    /// # Example
     ///
     /// ```
     /// use vcube::{Board, Outcome, Station, Status, Wiring};
@@ -261,7 +286,12 @@ impl Board {
     /// Board, not replied: the turn without a reply in time. Its outcome is
     /// [`Outcome::NoReply`], or [`Outcome::PassFinished`] where [`Board::next`] gives
     /// none.
-    /// Refusals: 10, 11.
+    ///
+    /// # Errors
+    ///
+    /// [`Refusal::NotLive`] or [`Refusal::PassFinished`].
+    ///
+    /// # Example
     ///
     /// ```
     /// use vcube::{Board, Outcome, Station, Wiring};
@@ -278,7 +308,12 @@ impl Board {
     }
 
     /// Board, told: the board leaves, told by the board `by`, which tested it.
-    /// Refusals: 10, 9.
+    ///
+    /// # Errors
+    ///
+    /// [`Refusal::NotLive`] or [`Refusal::NoSuchStation`].
+    ///
+    /// # Example
     ///
     /// ```
     /// use vcube::{Board, Refusal, Station, Status, Wiring};
@@ -297,7 +332,12 @@ impl Board {
 
     /// Board, exchanged: the board joins into its row that of the board `from`, which
     /// tested it. Any bytes of the length [`packed_length`] are a row.
-    /// Refusals: 10, 9, 13.
+    ///
+    /// # Errors
+    ///
+    /// [`Refusal::NotLive`], [`Refusal::NoSuchStation`] or [`Refusal::ListLength`].
+    ///
+    /// # Example
     ///
     /// ```
     /// use vcube::{Board, Station, Wiring};

@@ -95,7 +95,7 @@ numbered! {
         FieldOrder = 22 => "a field is out of order or has an unknown tag",
         /// The report of a mending.
         ReportTooShort = 23 => "the buffer for the report has fewer than 4n(n + 6) bytes",
-        /// Those of [`Wiring`] only: no call of this crate gives it.
+        /// No call of this crate gives it, since each takes a [`Wiring`].
         NoSuchWiring = 24 => "the wiring is neither 1, the cube, nor 2, the ring",
         LineLength = 25 => "the length of the board's line is not n + 6",
     }

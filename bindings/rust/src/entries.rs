@@ -6,12 +6,14 @@ use alloc::vec::Vec;
 
 /// Stands in the sheet where no station was tested, and is the last granted
 /// number where none was granted yet.
-pub(crate) const NO_STATION: u8 = 255;
+pub(crate) const NO_STATION: u8 = vcube_sys::VCUBE_NO_STATION;
 
 /// An entry of a schedule.
 #[derive(Clone, Copy, Debug, PartialEq, Eq, Hash)]
 pub struct Entry {
+    /// What the station does.
     pub kind: Kind,
+    /// Which station.
     pub station: Station,
 }
 
@@ -50,9 +52,11 @@ pub fn schedule(entries: &[Entry]) -> Vec<u8> {
 /// A line of the sheet: what the run wrote of an entry that it took.
 #[derive(Clone, Copy, Debug, PartialEq, Eq, Hash)]
 pub struct SheetLine {
+    /// The station of the entry.
     pub station: Station,
     /// The station it tested, if any.
     pub tested: Option<Station>,
+    /// What the entry brought.
     pub outcome: Outcome,
     /// The status of `station` after the entry; of the tested one, see
     /// [`SheetLine::ceased`].

@@ -2,16 +2,18 @@
 
 use crate::{Refusal, accepted, raw};
 use core::fmt;
+use vcube_sys::{vcube_figures, vcube_fraction, vcube_totals};
 
 /// The most results that figures are taken over.
-pub const MOST_RESULTS: usize = 4096;
+pub const MOST_RESULTS: usize = vcube_sys::VCUBE_MOST_RESULTS;
 
 /// A fraction in lowest terms: no number above 1 divides both parts, and the
 /// lower part is positive. Zero is 0/1.
 #[derive(Clone, Copy, Debug, PartialEq, Eq, Hash)]
-#[repr(C)]
 pub struct Fraction {
+    /// The upper part.
     pub upper: u64,
+    /// The lower part, which is positive.
     pub lower: u64,
 }
 
@@ -36,11 +38,14 @@ impl fmt::Display for Fraction {
 
 /// Figures over results.
 #[derive(Clone, Copy, Debug, PartialEq, Eq, Hash)]
-#[repr(C)]
 pub struct Figures {
+    /// How many results there are.
     pub count: u64,
+    /// The least result.
     pub least: u64,
+    /// The greatest result.
     pub greatest: u64,
+    /// The mean.
     pub mean: Fraction,
     /// Over the whole batch: the mean of the squared deviations from the mean,
     /// which divides by the count and not by one less.
@@ -48,14 +53,29 @@ pub struct Figures {
 }
 
 /// Figures by a call that fills them.
-fn filled(call: impl FnOnce(&mut Figures) -> u8) -> Result<Figures, Refusal> {
-    let none = Fraction { upper: 0, lower: 0 };
-    let mut figures = Figures { count: 0, least: 0, greatest: 0, mean: none, variance: none };
-    accepted(call(&mut figures)).map(|()| figures)
+fn filled(call: impl FnOnce(&mut vcube_figures) -> u8) -> Result<Figures, Refusal> {
+    let mut figures = vcube_figures::default();
+    accepted(call(&mut figures))?;
+    let vcube_figures { count, least, greatest, mean, variance } = figures;
+    let fraction = |vcube_fraction { upper, lower }| Fraction { upper, lower };
+    Ok(Figures { count, least, greatest, mean: fraction(mean), variance: fraction(variance) })
+}
+
+/// Totals by a call that fills them.
+fn filled_totals(call: impl FnOnce(&mut vcube_totals) -> u8) -> Result<Totals, Refusal> {
+    let mut totals = vcube_totals::default();
+    accepted(call(&mut totals))?;
+    let vcube_totals { count, sum, squares, least, greatest } = totals;
+    Ok(Totals { count, sum, squares, least, greatest })
 }
 
 /// Figures of a list.
-/// Refusals: 14 for an empty list, then 15 for more than [`MOST_RESULTS`].
+///
+/// # Errors
+///
+/// [`Refusal::NoResult`] for an empty list; [`Refusal::TooManyResults`] for more than [`MOST_RESULTS`].
+///
+/// # Example
 ///
 /// ```
 /// use vcube::Fraction;
@@ -72,8 +92,12 @@ pub fn figures(results: &[u16]) -> Result<Figures, Refusal> {
 
 /// Figures of two lists: those of the one list that holds both. Either may be
 /// empty.
-/// Refusals: 14 where both are empty, then 15 for more than [`MOST_RESULTS`] in
-/// all.
+///
+/// # Errors
+///
+/// [`Refusal::NoResult`] where both are empty; [`Refusal::TooManyResults`] for more than [`MOST_RESULTS`] in all.
+///
+/// # Example
 ///
 /// ```
 /// assert_eq!(vcube::figures_of_two(&[1], &[2])?, vcube::figures(&[1, 2])?);
@@ -86,21 +110,27 @@ pub fn figures_of_two(first: &[u16], second: &[u16]) -> Result<Figures, Refusal>
 /// Totals of results, kept in place of the results. The default is that of no
 /// result. Any numbers can stand here, also such as no results have.
 #[derive(Clone, Copy, Debug, Default, PartialEq, Eq, Hash)]
-#[repr(C)]
 pub struct Totals {
+    /// How many results there are.
     pub count: u64,
+    /// The sum of the results.
     pub sum: u64,
     /// The sum of the squares.
     pub squares: u64,
-    /// 0 where there is no result.
+    /// The least result, 0 where there is none.
     pub least: u64,
-    /// 0 where there is no result.
+    /// The greatest result, 0 where there is none.
     pub greatest: u64,
 }
 
 impl Totals {
     /// Totals of a list, which may be empty.
-    /// Refusals: 15 for more than [`MOST_RESULTS`].
+    ///
+    /// # Errors
+    ///
+    /// [`Refusal::TooManyResults`] for more than [`MOST_RESULTS`].
+    ///
+    /// # Example
     ///
     /// ```
     /// use vcube::Totals;
@@ -110,15 +140,19 @@ impl Totals {
     /// # Ok::<(), vcube::Refusal>(())
     /// ```
     pub fn of(results: &[u16]) -> Result<Totals, Refusal> {
-        let mut totals = Totals::default();
-        accepted(raw::totals_of_list(results, &mut totals)).map(|()| totals)
+        filled_totals(|totals| raw::totals_of_list(results, totals))
     }
 
     /// Join: the totals of the results of both. Least and greatest are those of
     /// `other` where `self` has count 0, and those of `self` where only `other`
     /// has.
-    /// Refusals: 15 for joined totals that [`MOST_RESULTS`] results cannot have
-    /// (count, sum or squares are greater).
+    ///
+    /// # Errors
+    ///
+    /// [`Refusal::TooManyResults`] for joined totals that [`MOST_RESULTS`] results cannot have (count, sum or squares
+    /// are greater).
+    ///
+    /// # Example
     ///
     /// ```
     /// use vcube::Totals;
@@ -131,14 +165,18 @@ impl Totals {
     /// # Ok::<(), vcube::Refusal>(())
     /// ```
     pub fn join(self, other: Totals) -> Result<Totals, Refusal> {
-        let mut joined = Totals::default();
-        accepted(raw::join_totals(&self, &other, &mut joined)).map(|()| joined)
+        filled_totals(|joined| raw::join_totals(&self.handed_in(), &other.handed_in(), joined))
     }
 
     /// Figures of totals: those of the results that the totals were taken of.
     /// What is given of totals that no results have is said in include/vcube.h.
-    /// Refusals: 14 for a count of 0, then 15 for totals that [`MOST_RESULTS`]
-    /// results cannot have.
+    ///
+    /// # Errors
+    ///
+    /// [`Refusal::NoResult`] for a count of 0; [`Refusal::TooManyResults`] for totals that [`MOST_RESULTS`] results
+    /// cannot have.
+    ///
+    /// # Example
     ///
     /// ```
     /// let results = [2, 4, 4, 4, 5, 5, 7, 9];
@@ -146,6 +184,11 @@ impl Totals {
     /// # Ok::<(), vcube::Refusal>(())
     /// ```
     pub fn figures(self) -> Result<Figures, Refusal> {
-        filled(|figures| raw::figures_of_totals(&self, figures))
+        filled(|figures| raw::figures_of_totals(&self.handed_in(), figures))
+    }
+
+    fn handed_in(self) -> vcube_totals {
+        let Totals { count, sum, squares, least, greatest } = self;
+        vcube_totals { count, sum, squares, least, greatest }
     }
 }

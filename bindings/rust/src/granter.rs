@@ -13,11 +13,38 @@ pub struct Driven {
     pub grants: usize,
 }
 
+impl Driven {
+    /// How many grants were made, where the drive came to its end.
+    ///
+    /// # Errors
+    ///
+    /// [`Driven::refusal`].
+    ///
+    /// # Example
+    ///
+    /// ```
+    /// use vcube::{Driven, Refusal};
+    ///
+    /// assert_eq!(Driven { refusal: None, grants: 32 }.result(), Ok(32));
+    /// let refusal = Refusal::TallyFull;
+    /// assert_eq!(Driven { refusal: Some(refusal), grants: 3 }.result(), Err(refusal));
+    /// ```
+    pub fn result(self) -> Result<usize, Refusal> {
+        self.refusal.map_or(Ok(self.grants), Err)
+    }
+}
+
 /// Grant: the station that is to have the next turn, which is the next one
 /// after `last`, going round, that is live and has not finished its pass. Where
 /// `last` is none it begins at station 0, else it ends with `last` itself. The
 /// library's number for none is 255, so `Some(Station(255))` is none, too.
-/// Refusals: 1 to 4, 16, 17.
+///
+/// # Errors
+///
+/// [`Refusal::SizeOutOfRange`], [`Refusal::TableLength`], [`Refusal::LineRule`], [`Refusal::RoundNotClosed`],
+/// [`Refusal::LastGranted`] or [`Refusal::NoneLive`].
+///
+/// # Example
 ///
 /// ```
 /// use vcube::{Station, Wiring};
@@ -43,9 +70,16 @@ pub fn grant(
 /// turn ([`Kind::Turn`](crate::Kind::Turn)), until a turn closes the round or
 /// leaves no station live; it makes at most n times n grants. The tally and the
 /// last granted station go in and come back in their place. A drive that is
-/// refused at its start leaves both as they were; one that stops with 7 keeps
+/// refused at its start leaves both as they were; one that stops at a full tally keeps
 /// the turns made.
-/// Refusals: 1 to 4, 16, 17, then 7 before each grant.
+///
+/// # Errors
+///
+/// [`Driven::refusal`] is [`Refusal::SizeOutOfRange`], [`Refusal::TableLength`], [`Refusal::LineRule`],
+/// [`Refusal::RoundNotClosed`], [`Refusal::LastGranted`] or [`Refusal::NoneLive`]; or, before a grant,
+/// [`Refusal::TallyFull`].
+///
+/// # Example
 ///
 /// ```
 /// use vcube::{Driven, Station, Tally, Wiring};

@@ -14,7 +14,13 @@ pub struct Doubt {
 
 /// Doubt lamp: the first live station that suspects another live one, and the
 /// first one that it suspects; none where no live station suspects a live one.
-/// Refusals: 1 to 4.
+///
+/// # Errors
+///
+/// [`Refusal::SizeOutOfRange`], [`Refusal::TableLength`], [`Refusal::LineRule`] or
+/// [`Refusal::RoundNotClosed`].
+///
+/// # Example
 ///
 /// ```
 /// use vcube::{Doubt, Entry, Kind, Station, Tally, Wiring};

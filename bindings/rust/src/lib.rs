@@ -1,21 +1,46 @@
-//! A safe binding to the vCube watch library: which stations of a plant of 2 to
-//! 64 are live, and who suspects whom.
+//! The vCube watch library: which stations of a plant of 2 to 64 are live, and who
+//! suspects whom.
 //!
-//! The rules have names and are in docs/RULES.md of the repository. The caller keeps
-//! the one table of a plant: a bus master, a panel or a test bench. It sends the
-//! messages, measures time-outs and judges that a reply is late.
+//! A [`Plant`] owns what its caller keeps: a bus master, a panel or a test bench. The
+//! caller sends the messages, measures time-outs and judges that a reply is late. A
+//! [`Board`] owns its own line and nothing else, as the firmware of a board keeps it. The
+//! functions take a table that is kept elsewhere, as a slice.
 //!
-//! Numbers and lengths may have any value: nothing need be checked before a call. A
-//! refused call changes nothing; a run that stops at an entry keeps the work of the
-//! entries before it, and a drive that stops before a grant that of the turns before
-//! it. "Refusals" lists the numbers of [`Refusal`] in the order of the checks.
+//! Station 5 of eight crashes, and the others find out:
+//!
+//! ```
+//! use vcube::{Entry, Kind, Plant, Station, Tally, Wiring};
+//!
+//! assert_eq!(vcube::version(), vcube::VERSION);
+//! let mut plant = Plant::new(Wiring::Cube, 8)?;
+//! plant.enter(Entry { kind: Kind::Crash, station: Station(5) })?;
+//!
+//! // A bus master grants the turns of one round. 4 finds 5 dead and makes 5 tests,
+//! // the other six make 3.
+//! assert_eq!(plant.drive().result()?, 30);
+//! assert_eq!(plant.tally, Tally { rounds: 1, tests: 23 });
+//! assert_eq!(plant.row(Station(0))?, [0, 0, 0, 0, 0, 1, 0, 0]);
+//! # Ok::<(), vcube::Refusal>(())
+//! ```
+//!
+//! The rules have names and are in docs/RULES.md of the repository. Numbers and lengths
+//! may have any value: nothing need be checked before a call. A refused call changes
+//! nothing; a run that stops at an entry keeps the work of the entries before it, and a
+//! drive that stops before a grant that of the turns before it. "Errors" names the cases
+//! of [`Refusal`] in the order in which they are checked.
+//!
+//! # The archive
+//!
+//! The crate `vcube-sys` links the archive libvcube.a: that in the folder named by
+//! `VCUBE_LIB_DIR`; else the one that `make archive` makes in the repository; else the one
+//! that pkg-config finds. `cargo check` and `cargo doc` do without it.
 //!
 //! # Wiring
 //!
 //! A plant is wired as the cube or as the ring ([`Wiring`]): that says whom a turn
-//! tests. Eight calls take it as their first argument, and a [`Board`] keeps it; give
-//! the same one in all calls of a plant. Group lists, assignments, slots and saved plants are for the
-//! cube.
+//! tests. A [`Plant`] and a [`Board`] keep it; functions take it as their first argument:
+//! give the same one in all calls of a plant. Group lists, assignments, slots and saved
+//! plants are for the cube.
 //!
 //! # Turn, pass, round
 //!
@@ -33,59 +58,24 @@
 //!
 //! # The table
 //!
-//! It has n lines of n + 6 bytes, in station order ([`table_length`]):
-//!
-//! | byte of a line | holds | read by |
-//! |---|---|---|
-//! | 0 | the status | [`status`] |
-//! | 1 | the next distance, from which the next turn looks for a test | |
-//! | 2 | 1 if the pass is finished in this round, else 0 | |
-//! | 3 | the tests made in this round | |
-//! | 4 | who told the station to leave | [`told_by`] |
-//! | 5 | rounds closed since it ceased to be live | [`rounds_ago`] |
-//! | 6 + k | 1 if the station suspects station k, else 0 | [`row`] |
-//!
-//! What a valid line is, is in docs/RULES.md, "The line rules". Tables and files of
-//! versions before 0.11: docs/PANEL.md, "Old files".
+//! It has n lines of n + 6 bytes, in station order ([`table_length`]). The methods of
+//! [`Line`] say what each byte holds. What a valid line is, is in docs/RULES.md, "The line
+//! rules". Tables and files of versions before 0.11: docs/PANEL.md, "Old files".
 //!
 //! # A board's own half
 //!
-//! A [`Board`] keeps its own line and nothing else, and sends its row over the cable.
-//! Together the boards of a plant do what a run does on the table.
+//! A [`Board`] sends its row over the cable. Together the boards of a plant do what a run
+//! does on the table.
 //!
 //! # Without a heap
 //!
 //! This crate uses no standard library, only `alloc`, and that for [`schedule`] and
 //! [`read_input`] alone: they are left out with `default-features = false`.
-//!
-//! # Example
-//!
-//! Station 5 of eight crashes, and the others find out:
-//!
-//! ```
-//! use vcube::{Entry, Kind, Station, Tally, Wiring};
-//!
-//! assert_eq!(vcube::version(), vcube::VERSION);
-//! let n = 8;
-//! let mut table = [0; vcube::table_length(8)];
-//! vcube::fresh_table(Wiring::Cube, n, &mut table)?;
-//!
-//! let (mut tally, mut last) = (Tally::default(), None);
-//! let crash = Entry { kind: Kind::Crash, station: Station(5) };
-//! let answer = vcube::run(Wiring::Cube, n, &mut table, &mut tally, &crash.bytes(), &mut [0; 4]);
-//! assert_eq!(answer.refusal, None);
-//!
-//! // A bus master grants the turns of one round. 4 finds 5 dead and makes 5 tests,
-//! // the other six make 3.
-//! let driven = vcube::drive(Wiring::Cube, n, &mut table, &mut tally, &mut last);
-//! assert_eq!((driven.refusal, driven.grants), (None, 30));
-//! assert_eq!(tally, Tally { rounds: 1, tests: 23 });
-//! assert_eq!(vcube::row(Wiring::Cube, n, &table, Station(0))?, [0, 0, 0, 0, 0, 1, 0, 0]);
-//! # Ok::<(), vcube::Refusal>(())
-//! ```
 
 #![no_std]
 #![deny(unsafe_code)]
+#![deny(missing_docs)]
+#![warn(clippy::missing_errors_doc)]
 
 #[cfg(feature = "alloc")]
 extern crate alloc;
@@ -101,10 +91,9 @@ mod granter;
 mod lamp;
 mod lines;
 mod mender;
-// Not for users: src/bin/replay-typed.rs makes calls by it that the types cannot express.
+mod plant;
 #[allow(unsafe_code)]
-#[doc(hidden)]
-pub mod raw;
+mod raw;
 mod saved;
 mod slot;
 mod texts;
@@ -125,8 +114,11 @@ pub use entries::{Entry, SheetLine, sheet_lines};
 pub use figures::{Figures, Fraction, MOST_RESULTS, Totals, figures, figures_of_two};
 pub use granter::{Driven, drive, grant};
 pub use lamp::{Doubt, doubt_lamp};
-pub use lines::{HEAD, TOLD_BY_NONE, TOLD_NOT_RECORDED, ToldBy, rounds_ago, status, told_by};
+pub use lines::{
+    HEAD, Line, TOLD_BY_NONE, TOLD_NOT_RECORDED, ToldBy, line, lines, rounds_ago, status, told_by,
+};
 pub use mender::{Change, LineByte, changes, mend, report_length};
+pub use plant::Plant;
 pub use saved::{Loaded, convert, converted_length, load, save, saved_length, saved_size};
 pub use slot::{Slot, slot};
 #[cfg(feature = "alloc")]
@@ -158,7 +150,9 @@ pub struct Level(pub usize);
 /// The tally of closed rounds and of tests.
 #[derive(Clone, Copy, Debug, Default, PartialEq, Eq, Hash)]
 pub struct Tally {
+    /// The rounds that were closed.
     pub rounds: u32,
+    /// The tests that were made.
     pub tests: u32,
 }
 
@@ -170,6 +164,27 @@ pub struct Answer {
     pub refusal: Option<Refusal>,
     /// How many entries were taken.
     pub taken: usize,
+}
+
+impl Answer {
+    /// How many entries were taken, where all were.
+    ///
+    /// # Errors
+    ///
+    /// [`Answer::refusal`].
+    ///
+    /// # Example
+    ///
+    /// ```
+    /// use vcube::{Answer, Refusal};
+    ///
+    /// assert_eq!(Answer { refusal: None, taken: 3 }.result(), Ok(3));
+    /// let refusal = Refusal::NotLive;
+    /// assert_eq!(Answer { refusal: Some(refusal), taken: 3 }.result(), Err(refusal));
+    /// ```
+    pub fn result(self) -> Result<usize, Refusal> {
+        self.refusal.map_or(Ok(self.taken), Err)
+    }
 }
 
 /// The version of this crate as one number: 10300 is 1.3.0.
@@ -192,8 +207,11 @@ const fn number(digits: &str) -> u32 {
 /// ```
 #[must_use]
 pub fn version() -> u32 {
-    raw::version()
+    vcube_sys::vcube_version()
 }
+
+/// The most stations of a plant; the fewest are two.
+pub const MOST_STATIONS: usize = 64;
 
 /// The length of a table of n stations: n lines of n + 6 bytes.
 /// It has no meaning for a size that the library refuses.
@@ -208,7 +226,12 @@ pub const fn table_length(n: usize) -> usize {
 
 /// Fresh table: every station live, nobody suspected, the start of a round. It is the
 /// same on both wirings.
-/// Refusals: 1, 2.
+///
+/// # Errors
+///
+/// [`Refusal::SizeOutOfRange`] or [`Refusal::TableLength`].
+///
+/// # Example
 ///
 /// ```
 /// use vcube::{Refusal, Wiring};
@@ -227,7 +250,7 @@ pub fn fresh_table(wiring: Wiring, n: usize, table: &mut [u8]) -> Result<(), Ref
 const HIGHEST_LEVEL: usize = 6;
 
 /// The length of the longest group list, that of the highest level.
-pub const LONGEST_GROUP: usize = 1 << (HIGHEST_LEVEL - 1);
+pub const LONGEST_GROUP: usize = vcube_sys::VCUBE_LONGEST_GROUP;
 
 /// The length of a group list: how many members the station's group at that
 /// level has, 0 to 2^(level - 1). It is computed here, not by the library, and
@@ -256,7 +279,13 @@ pub const fn group_length(n: usize, station: Station, level: Level) -> usize {
 /// Group list: the members of the station's group at that level, in order, into a
 /// list of just their number, [`group_length`]. [`group_stations`] gives them as
 /// [`Station`]s.
-/// Refusals: 1, 9, 12, 13.
+///
+/// # Errors
+///
+/// [`Refusal::SizeOutOfRange`], [`Refusal::NoSuchStation`], [`Refusal::NoSuchLevel`] or
+/// [`Refusal::ListLength`].
+///
+/// # Example
 ///
 /// ```
 /// use vcube::{Level, Station};
@@ -276,7 +305,13 @@ pub fn group_list(
 }
 
 /// The members of a [`group_list`], in order, read from the list that is lent.
-/// Refusals: 1, 9, 12, 13.
+///
+/// # Errors
+///
+/// [`Refusal::SizeOutOfRange`], [`Refusal::NoSuchStation`], [`Refusal::NoSuchLevel`] or
+/// [`Refusal::ListLength`].
+///
+/// # Example
 ///
 /// ```
 /// use vcube::{group_length, group_stations, Level, Station};
@@ -297,7 +332,13 @@ pub fn group_stations(
 }
 
 /// Row: the station's row as that very part of the lent table.
-/// Refusals: 1 to 4, 9.
+///
+/// # Errors
+///
+/// [`Refusal::SizeOutOfRange`], [`Refusal::TableLength`], [`Refusal::LineRule`], [`Refusal::RoundNotClosed`]
+/// or [`Refusal::NoSuchStation`].
+///
+/// # Example
 ///
 /// ```
 /// use vcube::{Station, Wiring};
@@ -320,7 +361,15 @@ pub fn row(wiring: Wiring, n: usize, table: &[u8], station: Station) -> Result<&
 /// and how long ago, [`told_by`] and [`rounds_ago`] read from the table. The tally
 /// goes in and comes back in its place. A run that is refused at its start leaves
 /// the tally as it was.
-/// Refusals: 1 to 6, then 7 to 11 at each entry.
+///
+/// # Errors
+///
+/// [`Answer::refusal`] is [`Refusal::SizeOutOfRange`], [`Refusal::TableLength`], [`Refusal::LineRule`],
+/// [`Refusal::RoundNotClosed`], [`Refusal::ScheduleLength`] or [`Refusal::SheetLength`]; or, at an entry,
+/// [`Refusal::TallyFull`], [`Refusal::UnknownKind`], [`Refusal::NoSuchStation`], [`Refusal::NotLive`] or
+/// [`Refusal::PassFinished`].
+///
+/// # Example
 ///
 /// ```
 /// use vcube::{Answer, Entry, Kind, Outcome, Refusal, Station, Status, Tally, Wiring};

@@ -3,7 +3,7 @@
 use crate::{HEAD, Refusal, Station, Wiring, accepted, number_of, raw, table_length};
 
 /// How many bytes a change has in the report.
-const CHANGE: usize = 4;
+const CHANGE: usize = vcube_sys::VCUBE_CHANGE_LENGTH;
 
 /// A byte of a line of the table, by what it holds.
 #[derive(Clone, Copy, Debug, PartialEq, Eq, Hash)]
@@ -75,12 +75,17 @@ pub const fn report_length(n: usize) -> usize {
     table_length(n).wrapping_mul(CHANGE)
 }
 
-/// Mend: makes a table that a brownout damaged valid, so that refusals 3 and 4 apply
-/// no longer, and lists each byte that it changed, by ascending offset: the changes
+/// Mend: makes a table that a brownout damaged valid, so that [`Refusal::LineRule`] and
+/// [`Refusal::RoundNotClosed`] apply no longer, and lists each byte that it changed, by ascending offset: the changes
 /// go to the front of the report, and zeros behind them. [`changes`] reads them.
 /// Gives how many there are. The report has [`report_length`] bytes or more. What
 /// becomes of each byte is in docs/RULES.md, "Mending". A valid table stays as it is.
-/// Refusals: 1, 2, 23.
+///
+/// # Errors
+///
+/// [`Refusal::SizeOutOfRange`], [`Refusal::TableLength`] or [`Refusal::ReportTooShort`].
+///
+/// # Example
 ///
 /// ```
 /// use vcube::{Change, LineByte, Station, Wiring};
@@ -122,7 +127,7 @@ pub fn mend(
 /// let change = Change { line, byte: LineByte::ToldBy, old: 9, new: 255 };
 /// assert!(vcube::changes(4, &[0, 14, 9, 255, 0, 0, 0, 0], 1).eq([change]));
 /// ```
-pub fn changes(n: usize, report: &[u8], count: usize) -> impl Iterator<Item = Change> {
+pub fn changes(n: usize, report: &[u8], count: usize) -> impl ExactSizeIterator<Item = Change> {
     let (listed, _) = report.as_chunks();
     listed.iter().take(count).map(move |bytes| Change::from_bytes(n, *bytes))
 }

@@ -1,11 +1,8 @@
-//! The calls of include/vcube.h as safe functions over slices. All `unsafe` of
-//! this crate is in this module.
+//! The calls of vcube-sys as safe functions over slices. All `unsafe` of this crate is
+//! in this module.
 //!
 //! Why it is sound:
 //!
-//! - The functions below have the arguments of include/vcube.h, in its order, and
-//!   the structs of the figures have the layout of its structs (`repr(C)`, the
-//!   same members).
 //! - A slice goes in as its pointer and its length, which [`call`] takes from the
 //!   same slice. The pointer is valid for that length and aligned for the items,
 //!   and a `&` or `&mut` is valid for its number or struct. The library reads and
@@ -15,46 +12,38 @@
 //!   for reading goes in as a `const` pointer.
 //! - The library keeps no pointer after a call and has no state of its own.
 
-use crate::{Figures, Totals};
+use vcube_sys::{vcube_figures, vcube_totals};
 
-/// `call!(safe = function(argument: type, ..) -> type)` declares a function of the
-/// header, and a safe one that calls it. A slice among the arguments is a pointer and
-/// a length to the function. Behind the `@` stand what was made of the arguments so
-/// far (for the safe function, for the declaration and for the call), and those that
-/// are left.
+/// `call!(safe = function(argument: type, ..) -> type)` defines a safe function that
+/// calls one of vcube-sys. A slice among the arguments is a pointer and a length to
+/// that. Behind the `@` stand what was made of the arguments so far (for the safe
+/// function and for the call), and those that are left.
 macro_rules! call {
     ($safe:ident = $function:ident($($left:tt)*) -> $number:ty) => {
-        call!(@ $safe $function $number [] [] [] $($left)*);
+        call!(@ $safe $function $number [] [] $($left)*);
     };
-    (@ $safe:ident $function:ident $number:ty [$($taken:tt)*] [$($declared:tt)*] [$($given:tt)*]) => {
+    (@ $safe:ident $function:ident $number:ty [$($taken:tt)*] [$($given:tt)*]) => {
         #[allow(clippy::too_many_arguments)]
         pub fn $safe($($taken)*) -> $number {
-            unsafe extern "C" {
-                fn $function($($declared)*) -> $number;
-            }
-            unsafe { $function($($given)*) }
+            unsafe { vcube_sys::$function($($given)*) }
         }
     };
-    (@ $safe:ident $function:ident $number:ty [$($taken:tt)*] [$($declared:tt)*] [$($given:tt)*]
+    (@ $safe:ident $function:ident $number:ty [$($taken:tt)*] [$($given:tt)*]
      $argument:ident: &[$item:ty] $(, $($left:tt)*)?) => {
-        call!(@ $safe $function $number
-              [$($taken)* $argument: &[$item],] [$($declared)* _: *const $item, _: usize,]
+        call!(@ $safe $function $number [$($taken)* $argument: &[$item],]
               [$($given)* $argument.as_ptr(), $argument.len(),] $($($left)*)?);
     };
-    (@ $safe:ident $function:ident $number:ty [$($taken:tt)*] [$($declared:tt)*] [$($given:tt)*]
+    (@ $safe:ident $function:ident $number:ty [$($taken:tt)*] [$($given:tt)*]
      $argument:ident: &mut [$item:ty] $(, $($left:tt)*)?) => {
-        call!(@ $safe $function $number
-              [$($taken)* $argument: &mut [$item],] [$($declared)* _: *mut $item, _: usize,]
+        call!(@ $safe $function $number [$($taken)* $argument: &mut [$item],]
               [$($given)* $argument.as_mut_ptr(), $argument.len(),] $($($left)*)?);
     };
-    (@ $safe:ident $function:ident $number:ty [$($taken:tt)*] [$($declared:tt)*] [$($given:tt)*]
+    (@ $safe:ident $function:ident $number:ty [$($taken:tt)*] [$($given:tt)*]
      $argument:ident: $other:ty $(, $($left:tt)*)?) => {
-        call!(@ $safe $function $number
-              [$($taken)* $argument: $other,] [$($declared)* _: $other,] [$($given)* $argument,] $($($left)*)?);
+        call!(@ $safe $function $number [$($taken)* $argument: $other,] [$($given)* $argument,] $($($left)*)?);
     };
 }
 
-call!(version = vcube_version() -> u32);
 call!(fresh_table = vcube_fresh_table(wiring: usize, n: usize, table: &mut [u8]) -> u8);
 call!(group_list = vcube_group_list(n: usize, station: usize, level: usize, list: &mut [u8]) -> u8);
 call!(assignment = vcube_assignment(n: usize, table: &[u8], station: usize, list: &mut [u8], count: &mut usize) -> u8);
@@ -74,14 +63,15 @@ call!(load = vcube_load(saved: &[u8], table: &mut [u8], n: &mut usize, rounds: &
 call!(saved_size = vcube_saved_size(saved: &[u8], n: &mut usize) -> u8);
 call!(convert = vcube_convert(old: &[u8], saved: &mut [u8]) -> u8);
 call!(converted_length = vcube_converted_length(old: &[u8], length: &mut usize) -> u8);
-call!(figures_of_list = vcube_figures_of_list(results: &[u16], figures: &mut Figures) -> u8);
-call!(figures_of_two_lists = vcube_figures_of_two_lists(first: &[u16], second: &[u16], figures: &mut Figures) -> u8);
-call!(totals_of_list = vcube_totals_of_list(results: &[u16], totals: &mut Totals) -> u8);
-call!(join_totals = vcube_join_totals(first: &Totals, second: &Totals, joined: &mut Totals) -> u8);
-call!(figures_of_totals = vcube_figures_of_totals(totals: &Totals, figures: &mut Figures) -> u8);
+call!(figures_of_list = vcube_figures_of_list(results: &[u16], figures: &mut vcube_figures) -> u8);
+call!(figures_of_two_lists = vcube_figures_of_two_lists(first: &[u16], second: &[u16], figures: &mut vcube_figures) -> u8);
+call!(totals_of_list = vcube_totals_of_list(results: &[u16], totals: &mut vcube_totals) -> u8);
+call!(join_totals = vcube_join_totals(first: &vcube_totals, second: &vcube_totals, joined: &mut vcube_totals) -> u8);
+call!(figures_of_totals = vcube_figures_of_totals(totals: &vcube_totals, figures: &mut vcube_figures) -> u8);
 call!(refusal_words = vcube_refusal_words(refusal: usize, words: &mut [u8]) -> u8);
 call!(status_words = vcube_status_words(status: usize, words: &mut [u8]) -> u8);
 call!(outcome_words = vcube_outcome_words(outcome: usize, words: &mut [u8]) -> u8);
+#[cfg(feature = "alloc")]
 call!(read_input = vcube_read_input(input: &[u8], schedule: &mut [u8], words: &mut [u8],
                                     n: &mut usize, entries: &mut usize, line: &mut usize) -> u8);
 call!(board_fresh = vcube_board_fresh(wiring: usize, n: usize, board: usize, line: &mut [u8]) -> u8);

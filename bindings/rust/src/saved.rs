@@ -7,6 +7,7 @@ use crate::{Refusal, Tally, accepted, raw};
 pub struct Loaded {
     /// The size of the plant.
     pub n: usize,
+    /// Its tally.
     pub tally: Tally,
 }
 
@@ -25,7 +26,13 @@ pub const fn saved_length(n: usize) -> usize {
 /// Save: writes the opening, the size, the tally and then the lines, ascending, as
 /// fields into a buffer of the length [`saved_length`]. The last granted number of
 /// a bus master is not saved.
-/// Refusals: 1 to 4, 13.
+///
+/// # Errors
+///
+/// [`Refusal::SizeOutOfRange`], [`Refusal::TableLength`], [`Refusal::LineRule`], [`Refusal::RoundNotClosed`]
+/// or [`Refusal::ListLength`].
+///
+/// # Example
 ///
 /// ```
 /// use vcube::{Tally, Wiring};
@@ -49,8 +56,15 @@ pub fn save(n: usize, table: &[u8], tally: Tally, saved: &mut [u8]) -> Result<()
 /// is taken is just what [`save`] writes of it. The table has the length
 /// [`table_length`](crate::table_length) of the saved plant's size, which
 /// [`saved_size`] gives beforehand. A file without the opening, as they were saved
-/// before version 0.11, is refused with 21: [`convert`] takes those of edition 1.
-/// Refusals: 18, 21, 22, 19, 1, 20, 2, 3, 4, in this order.
+/// before version 0.11, has none: [`convert`] takes those of edition 1.
+///
+/// # Errors
+///
+/// [`Refusal::FieldPastEnd`], [`Refusal::NoOpening`], [`Refusal::FieldOrder`], [`Refusal::SizeOrTallyField`],
+/// [`Refusal::SizeOutOfRange`], [`Refusal::LineField`], [`Refusal::TableLength`], [`Refusal::LineRule`] or
+/// [`Refusal::RoundNotClosed`].
+///
+/// # Example
 ///
 /// ```
 /// use vcube::{Loaded, Tally, Wiring};
@@ -75,7 +89,13 @@ pub fn load(saved: &[u8], table: &mut [u8]) -> Result<Loaded, Refusal> {
 /// The size of a saved plant, which says how long a table has to be lent for
 /// [`load`]. What the line fields hold is not looked at, but for the order of their
 /// stations.
-/// Refusals: 18, 21, 22, 19, 1, in this order.
+///
+/// # Errors
+///
+/// [`Refusal::FieldPastEnd`], [`Refusal::NoOpening`], [`Refusal::FieldOrder`], [`Refusal::SizeOrTallyField`]
+/// or [`Refusal::SizeOutOfRange`].
+///
+/// # Example
 ///
 /// ```
 /// use vcube::Refusal;
@@ -93,7 +113,14 @@ pub fn saved_size(saved: &[u8]) -> Result<usize, Refusal> {
 /// length [`converted_length`]. Edition 1 is what version 0.8 saved: heads of four
 /// bytes, no opening, fields in any order. Where a station was told to leave it is
 /// not recorded by whom, and rounds ago begin at 0.
-/// Refusals: 18, 22, 19, 1, 20, 3, 4, 13, in this order.
+///
+/// # Errors
+///
+/// [`Refusal::FieldPastEnd`], [`Refusal::FieldOrder`], [`Refusal::SizeOrTallyField`],
+/// [`Refusal::SizeOutOfRange`], [`Refusal::LineField`], [`Refusal::LineRule`], [`Refusal::RoundNotClosed`] or
+/// [`Refusal::ListLength`].
+///
+/// # Example
 ///
 /// ```
 /// // Two stations, of which the second was told to leave.
@@ -111,7 +138,13 @@ pub fn convert(old: &[u8], saved: &mut [u8]) -> Result<(), Refusal> {
 
 /// The length of the saved plant that [`convert`] makes of a file of edition 1.
 /// What the line fields hold is not looked at.
-/// Refusals: 18, 22, 19, 1, in this order.
+///
+/// # Errors
+///
+/// [`Refusal::FieldPastEnd`], [`Refusal::FieldOrder`], [`Refusal::SizeOrTallyField`] or
+/// [`Refusal::SizeOutOfRange`].
+///
+/// # Example
 ///
 /// ```
 /// let old = [1, 0, 1, 8, 2, 0, 8, 0, 0, 0, 0, 0, 0, 0, 0];

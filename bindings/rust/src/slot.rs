@@ -17,7 +17,13 @@ pub struct Slot {
 /// live. They are the same once the station knows the dead, and suspects no live
 /// station. Until then time slots by the sheet; or by this call on a copy of the table,
 /// with 1 in the station's row for each station that is not live.
-/// Refusals: 1 to 4, 9, 10.
+///
+/// # Errors
+///
+/// [`Refusal::SizeOutOfRange`], [`Refusal::TableLength`], [`Refusal::LineRule`], [`Refusal::RoundNotClosed`],
+/// [`Refusal::NoSuchStation`] or [`Refusal::NotLive`].
+///
+/// # Example
 ///
 /// ```
 /// use vcube::{Slot, Station, Wiring, HEAD};

@@ -1,9 +1,9 @@
-//! What the types add to the calls. The calls themselves are compared by
-//! src/bin/replay-typed.rs.
+//! What the types add to the calls. The calls themselves, by functions and by plants, are
+//! compared by tests/harness/typed.
 
 use std::error::Error;
-use std::format;
 use std::prelude::v1::*;
+use std::{format, vec};
 
 use crate::*;
 
@@ -37,7 +37,118 @@ fn numbers_and_names_are_those_of_the_header() {
     assert_eq!(cases(Kind::from_number, Kind::number), cases_of_header("VCUBE_KIND_"));
     assert_eq!(cases(Status::from_number, Status::number), cases_of_header("VCUBE_STATUS_"));
     assert_eq!(cases(Outcome::from_number, Outcome::number), cases_of_header("VCUBE_OUTCOME_"));
-    assert_eq!(cases(Wiring::from_number, Wiring::number), ["Cube 1", "Ring 2"]);
+    let wirings = [Wiring::Cube, Wiring::Ring].map(|wiring| usize::from(wiring.number()));
+    assert_eq!(wirings, [vcube_sys::VCUBE_WIRING_CUBE, vcube_sys::VCUBE_WIRING_RING]);
+    assert_eq!(cases(Wiring::from_number, Wiring::number).len(), 2);
+}
+
+const FUNCTIONS: &str = concat!(
+    include_str!("lib.rs"),
+    include_str!("assignment.rs"),
+    include_str!("slot.rs"),
+    include_str!("lines.rs"),
+    include_str!("granter.rs"),
+    include_str!("lamp.rs"),
+    include_str!("wait.rs"),
+    include_str!("mender.rs"),
+    include_str!("saved.rs"),
+    include_str!("figures.rs"),
+);
+
+/// Functions, and the names that RULES has for their calls.
+const CALLS: [(&str, &str); 23] = [
+    ("fresh_table", "Fresh table"),
+    ("group_list", "Group list"),
+    ("group_stations", "Group list"),
+    ("assignment", "Assignment"),
+    ("assignment_entries", "Assignment"),
+    ("due_distances", "Assignment"),
+    ("slot", "Slot call"),
+    ("row", "Row part"),
+    ("line", "Row part"),
+    ("run", "Run call"),
+    ("grant", "Grant call"),
+    ("drive", "Drive call"),
+    ("doubt_lamp", "Lamp call"),
+    ("wait", "Wait call"),
+    ("mend", "Mend"),
+    ("save", "Save"),
+    ("load", "Load"),
+    ("saved_size", "Saved size"),
+    ("convert", "Convert"),
+    ("converted_length", "Converted length"),
+    ("figures", "List figures"),
+    ("of", "List totals"),
+    ("join", "Join"),
+];
+
+/// The numbers of the refusals that the comment on a public function names, in its order.
+fn named_by(code: &str, function: &str) -> Option<Vec<u8>> {
+    let begin = |open| code.split_once(&format!("pub fn {function}{open}"));
+    let (before, _) = begin('(').or_else(|| begin('<'))?;
+    let lines = before.lines().rev().skip(1).map(str::trim_start);
+    let comment: Vec<&str> = lines.take_while(|line| line.starts_with("///")).collect();
+    let errors = comment.iter().rev().skip_while(|line| **line != "/// # Errors");
+    let errors = errors.take_while(|line| **line != "/// # Example");
+    let names = errors.flat_map(|line| line.split("[`Refusal::").skip(1));
+    let names = names.map(|text| text.split_once('`').expect("a name ends").0);
+    let refusals: Vec<Refusal> = (1..=25).filter_map(Refusal::from_number).collect();
+    let of = |name: &str| refusals.iter().find(|refusal| format!("{refusal:?}") == name);
+    Some(names.map(|name| of(name).expect("a refusal").number()).collect())
+}
+
+/// The numbers of the errors that RULES has of a call, in its order: those behind `Errors`,
+/// where `1–4` is 1 to 4.
+fn of_the_rules(call: &str) -> Vec<u8> {
+    let rules = include_str!("../../../docs/RULES.md");
+    let (_, behind) = rules.split_once(&format!("\n- **{call}**")).expect("the call");
+    let (_, errors) = behind.split_once("Error").expect("its errors");
+    let (errors, _) = errors.split_once('.').expect("a sentence");
+    let words =
+        errors.split(|c: char| !c.is_ascii_digit() && c != '–').filter(|word| !word.is_empty());
+    let number = |word: &str| word.parse::<u8>().expect("a number");
+    words
+        .flat_map(|word| {
+            let (first, last) = word.split_once('–').unwrap_or((word, word));
+            number(first)..=number(last)
+        })
+        .collect()
+}
+
+#[test]
+fn errors_are_named_as_the_rules_have_them() {
+    let mut of_plants = 0;
+    for (function, call) in CALLS {
+        let without = |never: &[u8]| {
+            let errors = of_the_rules(call).into_iter();
+            Some(errors.filter(|number| !never.contains(number)).collect())
+        };
+        assert_eq!(named_by(FUNCTIONS, function), without(&[24]), "{function}");
+        let of_plant = named_by(include_str!("plant.rs"), function);
+        if of_plant.is_some() {
+            of_plants += 1;
+            // A plant has a size, a table of its length, and a list of its own.
+            let never: &[u8] = match function {
+                "load" => &[2],
+                "assignment" | "due_distances" => &[1, 2, 13],
+                _ => &[24, 1, 2],
+            };
+            assert_eq!(of_plant, without(never), "{function} of a plant");
+        }
+    }
+    assert_eq!(of_plants, 13);
+    assert_eq!(named_by(include_str!("plant.rs"), "next"), Some(vec![9, 3, 10, 11]));
+    // A board has a size, a number and a valid line: 24, 1, 9, 25 and 3 do not occur.
+    for (function, call) in [
+        ("next", "Board, next"),
+        ("replied", "Board, replied"),
+        ("not_replied", "Board, not replied"),
+        ("told", "Board, told"),
+        ("exchanged", "Board, exchanged"),
+    ] {
+        let named = named_by(include_str!("board.rs"), function).expect("a method");
+        assert_eq!(named, of_the_rules(call)[5..], "{function} of a board");
+    }
 }
 
 #[test]
@@ -56,28 +167,6 @@ fn codes_are_displayed_in_the_words_of_the_library() {
     assert_eq!(format!("{:?}", status_words(0)), "\"live\"");
     let error: Box<dyn Error> = Refusal::NotLive.into();
     assert_eq!(error.to_string(), refusal_words(10).as_str());
-}
-
-#[test]
-fn constants_are_those_of_the_header() {
-    let constants = [
-        ("HEAD", HEAD),
-        ("LONGEST_GROUP", LONGEST_GROUP),
-        ("DUE", DUE.into()),
-        ("NO_STATION", entries::NO_STATION.into()),
-        ("TOLD_BY_NONE", TOLD_BY_NONE.into()),
-        ("TOLD_NOT_RECORDED", TOLD_NOT_RECORDED.into()),
-        ("MOST_RESULTS", MOST_RESULTS),
-        ("WORDS_LENGTH", WORDS_LENGTH),
-        ("SCHEDULE_LENGTH", SCHEDULE_LENGTH),
-        ("WIRING_CUBE", Wiring::Cube.number().into()),
-        ("WIRING_RING", Wiring::Ring.number().into()),
-    ];
-    for (name, number) in constants {
-        assert!(HEADER.contains(&format!("#define VCUBE_{name} {number}\n")), "{name}");
-    }
-    let sizes = [size_of::<Fraction>(), size_of::<Figures>(), size_of::<Totals>()];
-    assert_eq!(sizes, [16, 56, 40]);
 }
 
 #[test]
@@ -161,6 +250,23 @@ fn station_255_is_the_last_number_of_none() {
         let (mut full, mut given) = (Tally { rounds: u32::MAX, tests: 0 }, last);
         let driven = drive(Wiring::Cube, 2, &mut table, &mut full, &mut given);
         assert_eq!((driven.refusal, driven.grants, given), (Some(Refusal::TallyFull), 0, last));
+    }
+}
+
+#[test]
+fn a_plant_is_of_two_to_64_stations() {
+    for wiring in [Wiring::Cube, Wiring::Ring] {
+        for size in [0, 1, 65, usize::MAX / 64, usize::MAX] {
+            assert_eq!(Plant::new(wiring, size), Err(Refusal::SizeOutOfRange));
+            assert_eq!(Plant::from_table(wiring, size, &[]), Err(Refusal::SizeOutOfRange));
+        }
+        for size in 2..=MOST_STATIONS {
+            let plant = Plant::new(wiring, size).expect("a size");
+            assert_eq!((plant.size(), plant.wiring()), (size, wiring));
+            assert_eq!(plant.statuses().map(|all| all.len()), Ok(size));
+            let refused = Plant::from_table(wiring, size, &plant.table()[1..]);
+            assert_eq!(refused, Err(Refusal::TableLength));
+        }
     }
 }
 

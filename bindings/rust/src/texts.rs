@@ -8,10 +8,10 @@ use core::error::Error;
 use core::fmt;
 
 /// The length of a buffer for words.
-pub const WORDS_LENGTH: usize = 128;
+pub const WORDS_LENGTH: usize = vcube_sys::VCUBE_WORDS_LENGTH;
 
 /// The length of a schedule into which an input is read.
-pub const SCHEDULE_LENGTH: usize = 8192;
+pub const SCHEDULE_LENGTH: usize = vcube_sys::VCUBE_SCHEDULE_LENGTH;
 
 /// Words of the library.
 #[derive(Clone, Copy, PartialEq, Eq, Hash)]
@@ -116,6 +116,12 @@ impl Error for Unread {}
 /// Input: reads an input of the run program: lines that end with a line feed,
 /// which the last may lack. The entries before the first unreadable line go to the
 /// front of the schedule, whose rest is unchanged.
+///
+/// # Errors
+///
+/// [`Unread`] says which line cannot be read, and what is wrong in it.
+///
+/// # Example
 ///
 /// ```
 /// use vcube::{read_input, Input, SCHEDULE_LENGTH};

@@ -25,7 +25,13 @@ pub struct Wait {
 /// are on this wiring and no reply of a live station is late. The call asks none
 /// of this. The rules are Bounds of the wait, Detection conditions, Turns until
 /// known and Turns from a crash.
-/// Refusals: 1 to 4.
+///
+/// # Errors
+///
+/// [`Refusal::SizeOutOfRange`], [`Refusal::TableLength`], [`Refusal::LineRule`] or
+/// [`Refusal::RoundNotClosed`].
+///
+/// # Example
 ///
 /// ```
 /// use vcube::Wiring;

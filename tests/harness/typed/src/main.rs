@@ -6,7 +6,10 @@
 //! FILE may be `-`, which is standard input. tests/harness/compare/src/record.rs says
 //! how a record is written; `compare --with` starts this program.
 //!
-//! Calls that the types cannot express go through [`raw`]: those with a wiring number
+//! Each call on a table is made twice: by the function over slices, and by the method of
+//! a [`Plant`] with that table.
+//!
+//! Calls that the types cannot express go through vcube-sys: those with a wiring number
 //! that is no wiring, and with a buffer of words, a schedule of an input, the line of a
 //! new board or a buffer for its row of another length.
 //!
@@ -159,7 +162,13 @@ fn totals(members: &[u64]) -> Totals {
     let [count, sum, squares, least, greatest] = *members else {
         panic!("totals have five members, not {}", members.len());
     };
-    Totals { count, sum, squares, least, greatest }
+    Totals {
+        count,
+        sum,
+        squares,
+        least,
+        greatest,
+    }
 }
 
 /// Puts totals there, zeros where the call was refused; gives the number.
@@ -192,7 +201,10 @@ fn put_words(place: &mut [u8], words: &str) -> u8 {
 fn typed_schedule(bytes: &[u8]) -> Vec<u8> {
     let (pairs, rest) = bytes.as_chunks();
     let entries = pairs.iter().map(|[kind, station]| {
-        Some(Entry { kind: Kind::from_number(*kind)?, station: Station(usize::from(*station)) })
+        Some(Entry {
+            kind: Kind::from_number(*kind)?,
+            station: Station(usize::from(*station)),
+        })
     });
     match entries.collect::<Option<Vec<Entry>>>() {
         Some(entries) if rest.is_empty() => schedule(&entries),
@@ -232,17 +244,41 @@ fn check_assignment(
     entries: Result<Vec<AssignmentEntry>, Refusal>,
     due: Result<Vec<Distance>, Refusal>,
 ) {
-    let refusals = [given.err(), entries.as_ref().err().copied(), due.as_ref().err().copied()];
+    let refusals = [
+        given.err(),
+        entries.as_ref().err().copied(),
+        due.as_ref().err().copied(),
+    ];
     assert_eq!(refusals, [given.err(); 3]);
-    let (Ok(count), Ok(entries), Ok(due)) = (given, entries, due) else { return };
+    let (Ok(count), Ok(entries), Ok(due)) = (given, entries, due) else {
+        return;
+    };
     let bytes = entries.iter().flat_map(|entry| match entry.answer {
         DueOrAhead::Due => [entry.distance.0, DUE],
         DueOrAhead::Ahead(station) => [entry.distance.0, byte(station)],
     });
     assert!(bytes.eq(list.iter().copied()));
-    let of_entries = entries.iter().filter(|entry| entry.answer == DueOrAhead::Due);
-    assert!(of_entries.map(|entry| entry.distance).eq(due.iter().copied()));
+    let of_entries = entries
+        .iter()
+        .filter(|entry| entry.answer == DueOrAhead::Due);
+    assert!(
+        of_entries
+            .map(|entry| entry.distance)
+            .eq(due.iter().copied())
+    );
     assert_eq!(due.len(), count);
+}
+
+/// Byte 4 of a line.
+fn told_by_byte(n: usize, told_by: ToldBy) -> u8 {
+    match told_by {
+        ToldBy::Nobody => TOLD_BY_NONE,
+        ToldBy::NotRecorded => TOLD_NOT_RECORDED,
+        ToldBy::Station(other) => {
+            assert!(other.0 < n);
+            byte(other)
+        }
+    }
 }
 
 /// What a table says of a station: the bytes of its line, which begins that far before
@@ -255,24 +291,81 @@ fn check_head(
     row: Result<&[u8], Refusal>,
 ) {
     let of_status = status(wiring, n, table, station).map(Status::number);
-    let of_told_by = told_by(wiring, n, table, station).map(|told_by| match told_by {
-        ToldBy::Nobody => TOLD_BY_NONE,
-        ToldBy::NotRecorded => TOLD_NOT_RECORDED,
-        ToldBy::Station(other) => {
-            assert!(other.0 < n);
-            byte(other)
-        }
-    });
+    let of_told_by = told_by(wiring, n, table, station).map(|told_by| told_by_byte(n, told_by));
     let of_rounds_ago = rounds_ago(wiring, n, table, station);
     let expected = |column: usize| row.map(|_| table[station.0 * (n + HEAD) + column]);
-    assert_eq!([of_status, of_told_by, of_rounds_ago], [0, 4, 5].map(expected));
+    assert_eq!(
+        [of_status, of_told_by, of_rounds_ago],
+        [0, 4, 5].map(expected)
+    );
+}
+
+/// A plant with this table. None where the plant refuses it: a call on it is then refused so.
+fn plant_with(wiring: Wiring, n: usize, table: &[u8], refusal: Option<Refusal>) -> Option<Plant> {
+    let plant = Plant::from_table(wiring, n, table);
+    assert!(plant.is_ok() || plant.as_ref().err() == refusal.as_ref());
+    plant.ok()
+}
+
+/// What a plant with this table says of all its stations: the bytes of their lines; or the
+/// refusal that the row of a station has.
+fn check_lines(wiring: Wiring, n: usize, table: &[u8], of: Station, row: Result<&[u8], Refusal>) {
+    let Some(plant) = plant_with(wiring, n, table, row.err()) else {
+        return;
+    };
+    assert_eq!((plant.row(of), plant.line(of).map(Line::row)), (row, row));
+    let lines: Vec<Line> = match plant.lines() {
+        Ok(lines) => lines.collect(),
+        Err(refusal) => return assert_eq!(row, Err(refusal)),
+    };
+    assert_eq!(lines.len(), n);
+    assert!(
+        plant
+            .statuses()
+            .is_ok_and(|all| all.eq(lines.iter().map(|line| line.status())))
+    );
+    assert!(
+        plant
+            .told_by()
+            .is_ok_and(|all| all.eq(lines.iter().map(|line| line.told_by())))
+    );
+    assert!(
+        plant
+            .rounds_ago()
+            .is_ok_and(|all| all.eq(lines.iter().map(|line| line.rounds_ago())))
+    );
+    for (line, bytes) in lines.iter().zip(table.chunks(n + HEAD)) {
+        let told_by = told_by_byte(n, line.told_by());
+        let head = [
+            line.status().number(),
+            line.next_distance(),
+            line.has_finished_pass().into(),
+            line.tests_made(),
+            told_by,
+            line.rounds_ago(),
+        ];
+        assert_eq!((&head[..], line.row()), bytes.split_at(HEAD));
+        let suspected = (0..n).map(Station).filter(|other| line.suspects(*other));
+        assert!(line.suspected().eq(suspected));
+        assert!(
+            plant
+                .board(line.station())
+                .is_ok_and(|board| board.line() == bytes)
+        );
+    }
 }
 
 /// The changes of a mending: each says what its byte was and is, and there is none
 /// besides.
 fn check_changes(n: usize, before: &[u8], table: &[u8], report: &[u8], count: usize) {
     let mut mended = before.to_vec();
-    for Change { line, byte, old, new } in changes(n, report, count) {
+    for Change {
+        line,
+        byte,
+        old,
+        new,
+    } in changes(n, report, count)
+    {
         let column = match byte {
             LineByte::Status => 0,
             LineByte::NextDistance => 1,
@@ -313,6 +406,20 @@ fn put_outcome(place: &mut usize, given: Result<Outcome, Refusal>) -> u8 {
     number(given)
 }
 
+/// `by_numbers!(function(argument, [buffer], ..))` is the number of a call of vcube-sys. Of
+/// a buffer its pointer goes in, and its length. The other pointers are borrows, which are
+/// valid, and the library writes only where it may.
+macro_rules! by_numbers {
+    ($function:ident($($arguments:tt)*)) => { by_numbers!(@ $function [] $($arguments)*,) };
+    (@ $function:ident [$($given:tt)*] $(,)?) => { unsafe { vcube_sys::$function($($given)*) } };
+    (@ $function:ident [$($given:tt)*] [$buffer:ident], $($left:tt)*) => {
+        by_numbers!(@ $function [$($given)* $buffer.as_mut_ptr(), $buffer.len(),] $($left)*)
+    };
+    (@ $function:ident [$($given:tt)*] $argument:expr, $($left:tt)*) => {
+        by_numbers!(@ $function [$($given)* $argument,] $($left)*)
+    };
+}
+
 /// How a call was made, and its number.
 enum Made {
     ByTypes(u8),
@@ -325,9 +432,22 @@ fn make(function: &str, lent: &mut [Argument]) -> Option<Made> {
     let number = match (function, lent) {
         ("vcube_fresh_table", [Size(wired), Size(n), Bytes(table)]) => {
             let Some(wiring) = wiring(*wired) else {
-                return Some(ByNumbers(raw::fresh_table(*wired, *n, table)));
+                return Some(ByNumbers(by_numbers!(vcube_fresh_table(
+                    *wired,
+                    *n,
+                    [table]
+                ))));
             };
-            number(fresh_table(wiring, *n, table))
+            let given = fresh_table(wiring, *n, table);
+            let plant = Plant::new(wiring, *n);
+            match given {
+                Err(Refusal::TableLength) => assert!(plant.is_ok()),
+                _ => assert_eq!(
+                    plant.map(|plant| plant.table().to_vec()),
+                    given.map(|()| table.clone())
+                ),
+            }
+            number(given)
         }
         ("vcube_group_list", [Size(n), Size(station), Size(level), Bytes(list)]) => {
             let (station, level) = (Station(*station), Level(*level));
@@ -336,11 +456,21 @@ fn make(function: &str, lent: &mut [Argument]) -> Option<Made> {
                 .map(|members| members.map(byte).collect::<Vec<u8>>());
             assert_eq!(members, given.map(|()| list.clone()));
             assert!(given.is_err() || list.len() == group_length(*n, station, level));
+            let plant = Plant::new(Wiring::Cube, *n);
+            let of_plant = plant
+                .and_then(|plant| Ok(plant.group(station, level)?.map(byte).collect::<Vec<u8>>()));
+            assert!(of_plant == members || members == Err(Refusal::ListLength));
             number(given)
         }
         (
             "vcube_assignment",
-            [Size(n), Bytes(table), Size(station), Bytes(list), Figure(count)],
+            [
+                Size(n),
+                Bytes(table),
+                Size(station),
+                Bytes(list),
+                Figure(count),
+            ],
         ) => {
             let station = Station(*station);
             let given = assignment(*n, table, station, list);
@@ -349,28 +479,71 @@ fn make(function: &str, lent: &mut [Argument]) -> Option<Made> {
             let entries = entries.map(|entries| entries.collect::<Vec<_>>());
             let due = due_distances(*n, table, station, &mut lent);
             let due = due.map(|due| due.collect::<Vec<_>>());
+            if let Some(plant) = plant_with(Wiring::Cube, *n, table, given.err())
+                && given != Err(Refusal::ListLength)
+            {
+                assert_eq!(
+                    plant
+                        .assignment(station)
+                        .map(|entries| entries.collect::<Vec<_>>()),
+                    entries
+                );
+                assert_eq!(
+                    plant
+                        .due_distances(station)
+                        .map(|due| due.collect::<Vec<_>>()),
+                    due
+                );
+            }
             check_assignment(list, given, entries, due);
             assert!(given.is_err() || list.len() == assignment_length(*n));
             *count = given.unwrap_or(0);
             number(given)
         }
-        ("vcube_slot", [Size(n), Bytes(table), Size(station), Figure(tests), Figure(most)]) => {
+        (
+            "vcube_slot",
+            [
+                Size(n),
+                Bytes(table),
+                Size(station),
+                Figure(tests),
+                Figure(most),
+            ],
+        ) => {
             let given = slot(*n, table, Station(*station));
+            if let Some(plant) = plant_with(Wiring::Cube, *n, table, given.err()) {
+                assert_eq!(plant.slot(Station(*station)), given);
+            }
             (*tests, *most) = given.map_or((0, 0), |slot| (slot.tests, slot.most));
             number(given)
         }
         (
             "vcube_row",
-            [Size(wired), Size(n), Bytes(table), Size(station), Figure(start), Figure(length)],
+            [
+                Size(wired),
+                Size(n),
+                Bytes(table),
+                Size(station),
+                Figure(start),
+                Figure(length),
+            ],
         ) => {
             let Some(wiring) = wiring(*wired) else {
-                return Some(ByNumbers(raw::row(*wired, *n, table, *station, start, length)));
+                return Some(ByNumbers(by_numbers!(vcube_row(
+                    *wired,
+                    *n,
+                    [table],
+                    *station,
+                    start,
+                    length
+                ))));
             };
             let station = Station(*station);
             let given = row(wiring, *n, table, station);
             let offset = |row: &[u8]| row.as_ptr() as usize - table.as_ptr() as usize;
             (*start, *length) = given.map_or((0, 0), |row| (offset(row), row.len()));
             check_head(wiring, *n, table, station, given);
+            check_lines(wiring, *n, table, station, given);
             number(given)
         }
         (
@@ -387,22 +560,83 @@ fn make(function: &str, lent: &mut [Argument]) -> Option<Made> {
             ],
         ) => {
             let Some(wiring) = wiring(*wired) else {
-                let number = raw::run(*wired, *n, table, rounds, tests, schedule, sheet, taken);
+                let number = by_numbers!(vcube_run(
+                    *wired,
+                    *n,
+                    [table],
+                    rounds,
+                    tests,
+                    [schedule],
+                    [sheet],
+                    taken
+                ));
                 return Some(ByNumbers(number));
             };
-            let before = table.clone();
-            let mut tally = Tally { rounds: *rounds, tests: *tests };
-            let answer = run(wiring, *n, table, &mut tally, &typed_schedule(schedule), sheet);
+            let (before, sheet_before) = (table.clone(), sheet.clone());
+            let mut tally = Tally {
+                rounds: *rounds,
+                tests: *tests,
+            };
+            let handed_in = tally;
+            let answer = run(
+                wiring,
+                *n,
+                table,
+                &mut tally,
+                &typed_schedule(schedule),
+                sheet,
+            );
+            if let Some(mut plant) = plant_with(wiring, *n, &before, answer.refusal) {
+                plant.tally = handed_in;
+                let (mut other, mut own_sheet) = (plant.clone(), sheet_before);
+                assert_eq!(plant.run(schedule, &mut own_sheet), answer);
+                assert_eq!(
+                    (plant.table(), plant.tally, &own_sheet),
+                    (&table[..], tally, &*sheet)
+                );
+                if let (&[kind, station], &mut [a, b, c, d]) = (&schedule[..], &mut sheet[..])
+                    && let Some(kind) = Kind::from_number(kind)
+                {
+                    let line = SheetLine::from_bytes([a, b, c, d]);
+                    let station = Station(station.into());
+                    let next = other.next(station);
+                    let taken = other.enter(Entry { kind, station });
+                    if let (Ok(line), true) = (taken, kind != Kind::Crash) {
+                        assert_eq!(next, Ok(line.tested));
+                    }
+                    assert_eq!(taken.map(Some), answer.result().map(|_| line));
+                    assert_eq!(other, plant);
+                }
+            }
             (*rounds, *tests, *taken) = (tally.rounds, tally.tests, answer.taken);
             check_sheet(*n, &before, table, sheet, answer.taken);
             answer.refusal.map_or(0, Refusal::number)
         }
-        ("vcube_grant", [Size(wired), Size(n), Bytes(table), Size(last), Figure(station)]) => {
+        (
+            "vcube_grant",
+            [
+                Size(wired),
+                Size(n),
+                Bytes(table),
+                Size(last),
+                Figure(station),
+            ],
+        ) => {
             let Some(wiring) = wiring(*wired) else {
-                return Some(ByNumbers(raw::grant(*wired, *n, table, *last, station)));
+                return Some(ByNumbers(by_numbers!(vcube_grant(
+                    *wired,
+                    *n,
+                    [table],
+                    *last,
+                    station
+                ))));
             };
             let given = grant(wiring, *n, table, last_station(*last));
             assert_eq!(given, grant(wiring, *n, table, Some(Station(*last))));
+            if let Some(mut plant) = plant_with(wiring, *n, table, given.err()) {
+                plant.last = last_station(*last);
+                assert_eq!(plant.grant(), given);
+            }
             *station = given.map_or(0, |station| station.0);
             number(given)
         }
@@ -419,21 +653,55 @@ fn make(function: &str, lent: &mut [Argument]) -> Option<Made> {
             ],
         ) => {
             let Some(wiring) = wiring(*wired) else {
-                let number = raw::drive(*wired, *n, table, rounds, tests, last, grants);
+                let number = by_numbers!(vcube_drive(
+                    *wired,
+                    *n,
+                    [table],
+                    rounds,
+                    tests,
+                    last,
+                    grants
+                ));
                 return Some(ByNumbers(number));
             };
-            let mut tally = Tally { rounds: *rounds, tests: *tests };
+            let mut tally = Tally {
+                rounds: *rounds,
+                tests: *tests,
+            };
             let mut station = last_station(*last);
+            let mut plant = Plant::from_table(wiring, *n, table);
+            if let Ok(plant) = &mut plant {
+                (plant.tally, plant.last) = (tally, station);
+            }
             let driven = drive(wiring, *n, table, &mut tally, &mut station);
+            match plant {
+                Ok(mut plant) => {
+                    assert_eq!(plant.drive(), driven);
+                    assert_eq!(
+                        (plant.table(), plant.tally, plant.last),
+                        (&table[..], tally, station)
+                    );
+                }
+                Err(refusal) => assert_eq!(driven.result(), Err(refusal)),
+            }
             (*rounds, *tests) = (tally.rounds, tally.tests);
             (*last, *grants) = (station_number(station), driven.grants);
             driven.refusal.map_or(0, Refusal::number)
         }
         ("vcube_doubt_lamp", [Size(wired), Size(n), Bytes(table), Figure(by), Figure(of)]) => {
             let Some(wiring) = wiring(*wired) else {
-                return Some(ByNumbers(raw::doubt_lamp(*wired, *n, table, by, of)));
+                return Some(ByNumbers(by_numbers!(vcube_doubt_lamp(
+                    *wired,
+                    *n,
+                    [table],
+                    by,
+                    of
+                ))));
             };
             let given = doubt_lamp(wiring, *n, table);
+            if let Some(plant) = plant_with(wiring, *n, table, given.err()) {
+                assert_eq!(plant.doubt_lamp(), given);
+            }
             (*by, *of) = match given {
                 Ok(Some(doubt)) => (doubt.by.0, doubt.of.0),
                 Ok(None) => (NO_STATION.into(), NO_STATION.into()),
@@ -456,40 +724,111 @@ fn make(function: &str, lent: &mut [Argument]) -> Option<Made> {
             let places = [rounds, per_round, until_known, from_crash];
             let Some(wiring) = wiring(*wired) else {
                 let [rounds, per_round, until_known, from_crash] = places;
-                let number =
-                    raw::wait(*wired, *n, table, rounds, per_round, until_known, from_crash);
+                let number = by_numbers!(vcube_wait(
+                    *wired,
+                    *n,
+                    [table],
+                    rounds,
+                    per_round,
+                    until_known,
+                    from_crash
+                ));
                 return Some(ByNumbers(number));
             };
             let given = wait(wiring, *n, table);
+            if let Some(plant) = plant_with(wiring, *n, table, given.err()) {
+                assert_eq!(plant.wait(), given);
+            }
             let figures = given.map_or([0; 4], |wait| {
-                [wait.rounds, wait.turns_per_round, wait.turns_until_known, wait.turns_from_crash]
+                [
+                    wait.rounds,
+                    wait.turns_per_round,
+                    wait.turns_until_known,
+                    wait.turns_from_crash,
+                ]
             });
             for (place, figure) in places.into_iter().zip(figures) {
                 *place = figure;
             }
             number(given)
         }
-        ("vcube_mend", [Size(wired), Size(n), Bytes(table), Bytes(report), Figure(count)]) => {
+        (
+            "vcube_mend",
+            [
+                Size(wired),
+                Size(n),
+                Bytes(table),
+                Bytes(report),
+                Figure(count),
+            ],
+        ) => {
             let Some(wiring) = wiring(*wired) else {
-                return Some(ByNumbers(raw::mend(*wired, *n, table, report, count)));
+                return Some(ByNumbers(by_numbers!(vcube_mend(
+                    *wired,
+                    *n,
+                    [table],
+                    [report],
+                    count
+                ))));
             };
-            let before = table.clone();
+            let (before, mut own_report) = (table.clone(), report.clone());
             let given = mend(wiring, *n, table, report);
+            if let Some(mut plant) = plant_with(wiring, *n, &before, given.err()) {
+                let changed = plant
+                    .mend(&mut own_report)
+                    .map(|changed| changed.collect::<Vec<_>>());
+                let expected = given.map(|count| changes(*n, report, count).collect::<Vec<_>>());
+                assert_eq!((changed, plant.table()), (expected, &table[..]));
+                assert_eq!(own_report, *report);
+            }
             check_changes(*n, &before, table, report, given.unwrap_or(0));
             *count = given.unwrap_or(0);
             number(given)
         }
-        ("vcube_save", [Size(n), Bytes(table), Number(rounds), Number(tests), Bytes(saved)]) => {
-            let tally = Tally { rounds: *rounds, tests: *tests };
+        (
+            "vcube_save",
+            [
+                Size(n),
+                Bytes(table),
+                Number(rounds),
+                Number(tests),
+                Bytes(saved),
+            ],
+        ) => {
+            let tally = Tally {
+                rounds: *rounds,
+                tests: *tests,
+            };
+            let mut own_saved = saved.clone();
             let given = save(*n, table, tally, saved);
+            if let Some(mut plant) = plant_with(Wiring::Cube, *n, table, given.err()) {
+                plant.tally = tally;
+                assert_eq!((plant.save(&mut own_saved), &own_saved), (given, &*saved));
+                assert!(given.is_err() || saved.len() == plant.saved_length());
+            }
             assert!(given.is_err() || saved.len() == saved_length(*n));
             number(given)
         }
         (
             "vcube_load",
-            [Bytes(saved), Bytes(table), Figure(n), Counter(rounds), Counter(tests)],
+            [
+                Bytes(saved),
+                Bytes(table),
+                Figure(n),
+                Counter(rounds),
+                Counter(tests),
+            ],
         ) => {
             let given = load(saved, table);
+            let plant = Plant::load(Wiring::Cube, saved);
+            if given != Err(Refusal::TableLength) {
+                let loaded = plant.as_ref().map(|plant| Loaded {
+                    n: plant.size(),
+                    tally: plant.tally,
+                });
+                assert_eq!(loaded.map_err(|refusal| *refusal), given);
+                assert!(plant.is_ok_and(|plant| plant.table() == &table[..]) || given.is_err());
+            }
             assert!(
                 given.is_ok_and(|loaded| table.len() == table_length(loaded.n)) || given.is_err()
             );
@@ -525,29 +864,49 @@ fn make(function: &str, lent: &mut [Argument]) -> Option<Made> {
         }
         ("vcube_refusal_words", [Size(refusal), Bytes(words)]) => {
             if words.len() != WORDS_LENGTH {
-                return Some(ByNumbers(raw::refusal_words(*refusal, words)));
+                return Some(ByNumbers(by_numbers!(vcube_refusal_words(
+                    *refusal,
+                    [words]
+                ))));
             }
             put_words(words, refusal_words(*refusal).as_str())
         }
         ("vcube_status_words", [Size(status), Bytes(words)]) => {
             if words.len() != WORDS_LENGTH {
-                return Some(ByNumbers(raw::status_words(*status, words)));
+                return Some(ByNumbers(by_numbers!(vcube_status_words(*status, [words]))));
             }
             put_words(words, status_words(*status).as_str())
         }
         ("vcube_outcome_words", [Size(outcome), Bytes(words)]) => {
             if words.len() != WORDS_LENGTH {
-                return Some(ByNumbers(raw::outcome_words(*outcome, words)));
+                return Some(ByNumbers(by_numbers!(vcube_outcome_words(
+                    *outcome,
+                    [words]
+                ))));
             }
             put_words(words, outcome_words(*outcome).as_str())
         }
         (
             "vcube_read_input",
-            [Bytes(input), Bytes(schedule), Bytes(words), Figure(n), Figure(entries), Figure(line)],
+            [
+                Bytes(input),
+                Bytes(schedule),
+                Bytes(words),
+                Figure(n),
+                Figure(entries),
+                Figure(line),
+            ],
         ) => {
             let (Ok(typed), WORDS_LENGTH) = (schedule.as_mut_slice().try_into(), words.len())
             else {
-                let number = raw::read_input(input, schedule, words, n, entries, line);
+                let number = by_numbers!(vcube_read_input(
+                    [input],
+                    [schedule],
+                    [words],
+                    n,
+                    entries,
+                    line
+                ));
                 return Some(ByNumbers(number));
             };
             let given = read_input(input, typed);
@@ -560,7 +919,12 @@ fn make(function: &str, lent: &mut [Argument]) -> Option<Made> {
         }
         ("vcube_board_fresh", [Size(wired), Size(n), Size(own), Bytes(line)]) => {
             let (Some(wiring), true) = (wiring(*wired), line.len() == line_length(*n)) else {
-                return Some(ByNumbers(raw::board_fresh(*wired, *n, *own, line)));
+                return Some(ByNumbers(by_numbers!(vcube_board_fresh(
+                    *wired,
+                    *n,
+                    *own,
+                    [line]
+                ))));
             };
             let given = Board::new(wiring, *n, Station(*own));
             if let Ok(board) = &given {
@@ -570,7 +934,13 @@ fn make(function: &str, lent: &mut [Argument]) -> Option<Made> {
         }
         ("vcube_board_next", [Size(wired), Size(n), Size(own), Bytes(line), Figure(tested)]) => {
             let Some(given) = on_line(*wired, *n, *own, line, |board| board.next()) else {
-                return Some(ByNumbers(raw::board_next(*wired, *n, *own, line, tested)));
+                return Some(ByNumbers(by_numbers!(vcube_board_next(
+                    *wired,
+                    *n,
+                    *own,
+                    [line],
+                    tested
+                ))));
             };
             *tested = given.map_or(0, station_number);
             number(given)
@@ -578,7 +948,13 @@ fn make(function: &str, lent: &mut [Argument]) -> Option<Made> {
         ("vcube_board_row", [Size(wired), Size(n), Size(own), Bytes(line), Bytes(packed)]) => {
             let given = on_line(*wired, *n, *own, line, |board| board.row());
             let (Some(given), true) = (given, packed.len() == packed_length(*n)) else {
-                return Some(ByNumbers(raw::board_row(*wired, *n, *own, line, packed)));
+                return Some(ByNumbers(by_numbers!(vcube_board_row(
+                    *wired,
+                    *n,
+                    *own,
+                    [line],
+                    [packed]
+                ))));
             };
             if let Ok(row) = given {
                 packed.copy_from_slice(&row);
@@ -587,22 +963,43 @@ fn make(function: &str, lent: &mut [Argument]) -> Option<Made> {
         }
         (
             "vcube_board_replied",
-            [Size(wired), Size(n), Size(own), Bytes(line), Bytes(packed), Figure(outcome)],
+            [
+                Size(wired),
+                Size(n),
+                Size(own),
+                Bytes(line),
+                Bytes(packed),
+                Figure(outcome),
+            ],
         ) => {
             let given = on_line(*wired, *n, *own, line, |board| board.replied(packed));
             let Some(given) = given else {
-                let number = raw::board_replied(*wired, *n, *own, line, packed, outcome);
+                let number = by_numbers!(vcube_board_replied(
+                    *wired,
+                    *n,
+                    *own,
+                    [line],
+                    [packed],
+                    outcome
+                ));
                 return Some(ByNumbers(number));
             };
             put_outcome(outcome, given)
         }
         (
             "vcube_board_not_replied",
-            [Size(wired), Size(n), Size(own), Bytes(line), Figure(outcome)],
+            [
+                Size(wired),
+                Size(n),
+                Size(own),
+                Bytes(line),
+                Figure(outcome),
+            ],
         ) => {
             let given = on_line(*wired, *n, *own, line, |board| board.not_replied());
             let Some(given) = given else {
-                let number = raw::board_not_replied(*wired, *n, *own, line, outcome);
+                let number =
+                    by_numbers!(vcube_board_not_replied(*wired, *n, *own, [line], outcome));
                 return Some(ByNumbers(number));
             };
             put_outcome(outcome, given)
@@ -610,17 +1007,37 @@ fn make(function: &str, lent: &mut [Argument]) -> Option<Made> {
         ("vcube_board_told", [Size(wired), Size(n), Size(own), Bytes(line), Size(by)]) => {
             let told = |board: &mut Board| board.told(Station(*by));
             let Some(given) = on_line(*wired, *n, *own, line, told) else {
-                return Some(ByNumbers(raw::board_told(*wired, *n, *own, line, *by)));
+                return Some(ByNumbers(by_numbers!(vcube_board_told(
+                    *wired,
+                    *n,
+                    *own,
+                    [line],
+                    *by
+                ))));
             };
             number(given)
         }
         (
             "vcube_board_exchanged",
-            [Size(wired), Size(n), Size(own), Bytes(line), Size(from), Bytes(packed)],
+            [
+                Size(wired),
+                Size(n),
+                Size(own),
+                Bytes(line),
+                Size(from),
+                Bytes(packed),
+            ],
         ) => {
             let exchanged = |board: &mut Board| board.exchanged(Station(*from), packed);
             let Some(given) = on_line(*wired, *n, *own, line, exchanged) else {
-                let number = raw::board_exchanged(*wired, *n, *own, line, *from, packed);
+                let number = by_numbers!(vcube_board_exchanged(
+                    *wired,
+                    *n,
+                    *own,
+                    [line],
+                    *from,
+                    [packed]
+                ));
                 return Some(ByNumbers(number));
             };
             number(given)
@@ -631,7 +1048,12 @@ fn make(function: &str, lent: &mut [Argument]) -> Option<Made> {
                 Ok(())
             };
             let Some(given) = on_line(*wired, *n, *own, line, close) else {
-                return Some(ByNumbers(raw::board_round_closed(*wired, *n, *own, line)));
+                return Some(ByNumbers(by_numbers!(vcube_board_round_closed(
+                    *wired,
+                    *n,
+                    *own,
+                    [line]
+                ))));
             };
             number(given)
         }
@@ -669,7 +1091,11 @@ fn replay(mut record: impl BufRead) -> Result<String, Fault> {
                 by_numbers += 1;
                 number
             }
-            None => return Err(Unreadable(format!("the header has no such call of {function}"))),
+            None => {
+                return Err(Unreadable(format!(
+                    "the header has no such call of {function}"
+                )));
+            }
         };
         if number != call.number {
             return differs(format!("number {number}, and not {}", call.number));
@@ -683,15 +1109,22 @@ fn replay(mut record: impl BufRead) -> Result<String, Fault> {
         return Err(Unreadable("it has no call".into()));
     }
     let functions = functions.len();
-    Ok(format!("{calls} calls of {functions} functions agree, {by_numbers} of them not by types"))
+    Ok(format!(
+        "{calls} calls of {functions} functions agree, {by_numbers} of them not by types"
+    ))
 }
 
 fn main() -> ExitCode {
     panic::set_hook(Box::new(|panicked| {
-        eprintln!("replay-typed: call {}: {panicked}", CALL.load(Ordering::Relaxed));
+        eprintln!(
+            "replay-typed: call {}: {panicked}",
+            CALL.load(Ordering::Relaxed)
+        );
     }));
     let said = match env::args().nth(1).as_deref() {
-        None => Err(Unreadable("none is named (usage: replay-typed FILE)".into())),
+        None => Err(Unreadable(
+            "none is named (usage: replay-typed FILE)".into(),
+        )),
         Some("-") => replay(io::stdin().lock()),
         Some(path) => match File::open(path) {
             Ok(file) => replay(BufReader::new(file)),
