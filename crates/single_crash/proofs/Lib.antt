@@ -1,0 +1,2 @@
+-- The laws that the proofs of `single_crash` share.
+pub mod Sweeps

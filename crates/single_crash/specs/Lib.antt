@@ -1,0 +1,4 @@
+-- What the contracts of `single_crash` cite.
+pub mod Sweeps
+pub mod Setting
+pub mod Known
