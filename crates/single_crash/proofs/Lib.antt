@@ -1,2 +1,3 @@
 -- The laws that the proofs of `single_crash` share.
 pub mod Sweeps
+pub mod Running
