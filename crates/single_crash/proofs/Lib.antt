@@ -1,3 +1,6 @@
 -- The laws that the proofs of `single_crash` share.
 pub mod Sweeps
 pub mod Running
+pub mod Crashing
+pub mod Passes
+pub mod Around
