@@ -4,3 +4,4 @@ pub mod Running
 pub mod Crashing
 pub mod Passes
 pub mod Around
+pub mod OnRing
