@@ -5,3 +5,4 @@ pub mod Crashing
 pub mod Passes
 pub mod Around
 pub mod OnRing
+pub mod RingStages
