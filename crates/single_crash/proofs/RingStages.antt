@@ -21,7 +21,7 @@ use Rattle.table.specs.Rules.{round_over}
 use Rattle.table.proofs.SizeLaws.{size-bounds}
 use Rattle.plant.specs.Turn.{kind_turn, turn}
 use Rattle.plant.proofs.RoundLaws.{Reset}
-use Rattle.granter.specs.Grant.{waits}
+use Rattle.granter.specs.Grant.{waits, following}
 use Rattle.granter.specs.Fairness.{stations_before}
 use Rattle.granter.specs.Drive.{Stand, granted_at, grant_turn}
 use Rattle.detection.proofs.TurnEffect.{Exact}
@@ -35,7 +35,7 @@ use Rattle.single_crash.proofs.Around.{board_at, BeginsAt, board-below, begins-f
 use Rattle.single_crash.proofs.Around.{before-below, before-next, other-next, before-second, before-apart, behind-below, behind-apart, begins-at}
 use Rattle.single_crash.proofs.Around.{both-apart}
 use Rattle.single_crash.proofs.Around as around
-use Rattle.single_crash.proofs.OnRing.{PassesOf, left_of, passes-fresh, ring-turn, pass-turn, passes-on, had-left, one-less, one, reach-one}
+use Rattle.single_crash.proofs.OnRing.{PassesOf, left_of, passes-fresh, counts-at, finds-at, meets-at, passes-on, had-left, one-less, one, reach-one}
 
 abbrev w : ℕ
 w = wiring_ring
@@ -194,3 +194,103 @@ module _ (n b : ℕ) (size : is_size n ≡ true) (four : 4 ≤ n) (hb : b < n) w
     waiting-on unclosed =
         let o = goes_on w n L crew begins p s.run unclosed in
         record { run = o.running; passes = rw o.table (passes-on n L crew begins p s.run one s.passes); tested = rw o.table waiting-tested }
+
+  -- a grant in the round in which a tests b
+  module _ (begins : ℕ) (p : Stand) (s : Finding begins p) where
+    abbrev t : List ℕ
+    t = p.state.table
+
+    abbrev g : ℕ
+    g = granted_at n p
+
+    abbrev t' : List ℕ
+    t' = turn w n t kind_turn g
+
+    grows : (i : ℕ) → i < n → suspects n t i b ≡ 1 → suspects n t' i b ≡ 1
+    grows i h e = (kept w n L crew begins p s.run).grows i b h hb e
+
+    others : a ≢ g → tests_made n t' a ≡ tests_made n t a
+    others d = (heads w n L crew begins p s.run).others a tests_column d (omega arith)
+
+    -- a finds b, and then tells the one behind it
+    turn-finds : a ≡ g → tests_made n t a ≡ 0 → suspects n t' a b ≡ 1
+    turn-finds e none =
+        let at = (s.passes.testing a a-below a-lives (omega (arith, two-at))).0 in
+        rw (before-next n b hb (omega arith)) at
+        (finds-at n L crew begins p s.run a 1 e (omega arith) (omega arith) (rw (before-next n b hb (omega arith)) b-dead))
+
+    turn-tells : a ≡ g → tests_made n t a ≡ 1 → suspects n t' c b ≡ 1
+    turn-tells e once =
+        let at = (s.passes.testing a a-below a-lives (omega (arith, two-at))).0 in
+        let meets = meets-at n L crew begins p s.run a 2 e (omega arith) (omega arith) (rw (before-second n b hb (omega arith)) c-lives) b hb in
+        rw (before-second n b hb (omega arith)) at (meets.0 (s.found (omega arith)))
+
+    finding-found : 1 ≤ tests_made n t' a → suspects n t' a b ≡ 1
+    finding-found l =
+        by_cases (dec_lt 0 (tests_made n t a)) (λ m. grows a a-below (s.found m))
+        (λ m. by_cases (ℕ_discrete a g) (λ e. turn-finds e (omega arith)) (λ d. absurd (omega (arith, others d))))
+
+    finding-told : 2 ≤ tests_made n t' a → suspects n t' c b ≡ 1
+    finding-told l =
+        by_cases (dec_lt 1 (tests_made n t a)) (λ m. grows c c-below (s.told m))
+        (λ m. by_cases (ℕ_discrete a g)
+        (λ e. by_cases (ℕ_discrete (tests_made n t a) 1) (turn-tells e)
+        (λ none.
+        let at = (s.passes.testing a a-below a-lives (omega (arith, two-at))).0 in
+        absurd (omega (arith, counts-at n L crew begins p s.run a 1 e (omega arith) (omega arith)))))
+        (λ d. absurd (omega (arith, others d))))
+
+    pub finding-on : round_over n t' ≡ false → Finding begins (grant_turn w n p)
+    finding-on unclosed =
+        let o = goes_on w n L crew begins p s.run unclosed in
+        record {
+          run = o.running;
+          passes = rw o.table (passes-on n L crew begins p s.run two_before s.passes);
+          found = rw o.table finding-found;
+          told = rw o.table finding-told;
+        }
+
+    -- where the round closes, a has finished last
+    finds-last : round_over n t' ≡ true → g ≡ a
+    finds-last over =
+        by_cases (ℕ_discrete g a) (λ e. e)
+        (λ d.
+        let r = s.run in
+        let h = heads w n L crew begins p r in
+        let ended : finished n t' a ≡ 1 = all-finished w n L t' (kept w n L crew begins p r).plain over a a-below a-lives in
+        let same = h.others a finished_column (λ e. d (sym e)) (omega arith) in
+        let after = by_cases (dec_lt (tests_made n t a) 2) (λ l. absurd (omega (arith, s.passes.testing a a-below a-lives (omega (arith, two-at)))))
+            (λ l. s.passes.tested a a-below a-lives (omega (arith, two-at))) in
+        let most = sweep-most n begins (waits n t) (turns_made n t) p.last g r.fits r.sweep (next w n L crew begins p r) a a-below in
+        absurd (omega (arith, most, after, two-at, one-at g d, had-left n L crew begins p r two_before s.passes, going w n L crew begins p r)))
+
+    -- it and the one behind b know b then, and the next round begins at b
+    pub finding-closes : round_over n t' ≡ true → (begins' : ℕ) × Spread begins' 0 (grant_turn w n p)
+    finding-closes over = (following g, record {
+      run = z.running;
+      from = rw (finds-last over) (begins-at n b hb (omega arith) top);
+      fresh = λ i h l m. let f = z.fresh i h in (f.next, f.untested, f.unfinished);
+      tested = λ i h l m. absurd (omega (arith, place-other n b (following g) hb from i h (apart i l)));
+      knows = λ i h l m.
+          let same : i ≡ c =
+          place-one n (following g) i c (begins-fits n b (following g) hb from) h c-below
+          (omega (arith, place-other n b (following g) hb from i h (apart i l), place-of n b (following g) hb from 1 (omega arith))) in
+          rw same (z.grown c b c-below hb (finding-told ended));
+      before_knows = z.grown a b a-below hb (finding-found (omega (arith, ended)));
+    })
+      where
+        z : Closed w n L t' g p (grant_turn w n p)
+        z = closes w n L crew begins p s.run over
+
+        top : n ≤ 64
+        top = (size-bounds n size).1
+
+        from : BeginsAt n b (following g)
+        from = rw (finds-last over) (begins-at n b hb (omega arith) top)
+
+        ended : 2 ≤ tests_made n t' a
+        ended =
+            let done = all-finished w n L t' (kept w n L crew begins p s.run).plain over a a-below a-lives in
+            by_cases (dec_lt 1 (tests_made n t' a)) (λ m. m)
+            (λ m. absurd (omega (arith, done, (passes-on n L crew begins p s.run two_before s.passes).testing a a-below a-lives
+            (omega (arith, two-at)))))
