@@ -294,3 +294,139 @@ module _ (n b : ℕ) (size : is_size n ≡ true) (four : 4 ≤ n) (hb : b < n) w
             by_cases (dec_lt 1 (tests_made n t' a)) (λ m. m)
             (λ m. absurd (omega (arith, done, (passes-on n L crew begins p s.run two_before s.passes).testing a a-below a-lives
             (omega (arith, two-at)))))
+
+  -- a grant in the round behind that
+  module _ (begins j : ℕ) (p : Stand) (s : Spread begins j p) (more : j + 3 < n) where
+    abbrev u : List ℕ
+    u = p.state.table
+
+    abbrev e : ℕ
+    e = granted_at n p
+
+    abbrev u' : List ℕ
+    u' = turn w n u kind_turn e
+
+    abbrev place : ℕ → ℕ
+    place i = stations_before n begins i
+
+    fits : begins ≤ n
+    fits = begins-fits n b begins hb s.from
+
+    below : e < n
+    below = (chosen w n L crew begins p s.run).0
+
+    -- the next board in the circle waits, and has made no turn
+    abbrev x : ℕ
+    x = board_at n b (suc j)
+
+    x-below : x < n
+    x-below = board-below n b (suc j) hb (omega arith)
+
+    x-place : place x ≡ suc j
+    x-place = place-of n b begins hb s.from (suc j) (omega arith)
+
+    x-lives : L x ≡ true
+    x-lives = lives x (λ q. omega (arith, x-place, rw (← q) at (place-zero n b begins hb s.from)))
+
+    x-waits : waits n u x ≡ true
+    unfolding waits
+    x-waits =
+        let f = s.fresh x x-below x-lives (omega (arith, x-place)) in
+        rw (s.run.plain.lives x x-below, x-lives, f.2) refl
+
+    -- so it is granted
+    at-next : e ≡ x
+    at-next =
+        let r = s.run in
+        let f = s.fresh x x-below x-lives (omega (arith, x-place)) in
+        let chain = next w n L crew begins p r in
+        let few = sweep-fewest n begins (waits n u) (turns_made n u) p.last e r.fits r.sweep chain x x-below x-waits in
+        let none : tests_made n u e ≡ 0 = omega arith in
+        let low : suc j ≤ place e =
+        by_cases (dec_lt j (place e)) (λ l. l)
+        (λ l. absurd (omega (arith, none, s.tested e below (is_live w n L crew begins p r) (omega arith)))) in
+        let high = sweep-first n begins (waits n u) (turns_made n u) p.last e r.fits r.sweep chain x x-below x-waits
+        (omega (arith, none, going w n L crew begins p r)) in
+        place-one n begins e x fits below x-below (omega (arith, x-place))
+
+    e-place : place e ≡ suc j
+    e-place = rw at-next x-place
+
+    e-lives : L e ≡ true
+    e-lives = is_live w n L crew begins p s.run
+
+    -- the one that it tests
+    abbrev y : ℕ
+    y = (e + 1) % n
+
+    y-place : place y ≡ suc (suc j)
+    y-place = omega (arith, place-next n b begins hb s.from e below (omega (arith, e-place)), e-place)
+
+    y-below : y < n
+    y-below = board-below n e 1 below (omega arith)
+
+    y-lives : L y ≡ true
+    y-lives = lives y (λ q. omega (arith, y-place, rw (← q) at (place-zero n b begins hb s.from)))
+
+    y-hears : suspects n u' y b ≡ 1
+    y-hears =
+        let f = s.fresh e below e-lives (omega (arith, e-place)) in
+        (meets-at n L crew begins p s.run e 1 refl f.0 (omega arith) y-lives b hb).0 (s.knows e below e-lives (omega (arith, e-place)))
+
+    counted : tests_made n u' e ≡ suc (tests_made n u e)
+    counted =
+        let f = s.fresh e below e-lives (omega (arith, e-place)) in
+        counts-at n L crew begins p s.run e 1 refl f.0 (omega arith)
+
+    -- a has made no turn, so that the round does not close
+    spread-open : round_over n u' ≡ false
+    spread-open =
+        by_bool (round_over n u')
+        (λ over.
+        let done = all-finished w n L u' (kept w n L crew begins p s.run).plain over a a-below a-lives in
+        let far = place-of n b begins hb s.from (n - 1) (omega arith) in
+        let other : a ≢ e = λ q. omega (arith, far, e-place, rw q at far) in
+        let same = (heads w n L crew begins p s.run).others a finished_column other (omega arith) in
+        absurd (omega (arith, done, same, s.fresh a a-below a-lives (omega (arith, far)))))
+        (λ o. o)
+
+    pub spread-on : Spread begins (suc j) (grant_turn w n p)
+    spread-on =
+        let o = goes_on w n L crew begins p s.run spread-open in
+        let h = heads w n L crew begins p s.run in
+        let grows : (i : ℕ) → i < n → suspects n u i b ≡ 1 → suspects n u' i b ≡ 1 =
+        λ i l q. (kept w n L crew begins p s.run).grows i b l hb q in
+        record {
+          run = o.running;
+          from = s.from;
+          fresh = λ i k l m.
+              let other : i ≢ e = λ q. omega (arith, e-place, rw q at m) in
+              let f = s.fresh i k l (omega arith) in
+              rw o.table (
+                h.others i next_column other (omega arith) ∙ f.0,
+                h.others i tests_column other (omega arith) ∙ f.1,
+                h.others i finished_column other (omega arith) ∙ f.2,
+              );
+          tested = λ i k l m.
+              rw o.table (by_cases (ℕ_discrete i e) (λ q. rw q (omega (arith, counted)))
+              (λ q.
+              let apart : place i ≢ place e = λ z. q (place-one n begins i e fits k below z) in
+              omega (arith, h.others i tests_column q (omega arith), s.tested i k l (omega (arith, apart, e-place)))));
+          knows = λ i k l m.
+              rw o.table (by_cases (dec_lt (place i) (suc (suc j))) (λ q. grows i k (s.knows i k l (omega arith)))
+              (λ q.
+              let same : i ≡ y = place-one n begins i y fits k y-below (omega (arith, y-place)) in
+              rw same y-hears));
+          before_knows = rw o.table (grows a a-below s.before_knows);
+        }
+
+  -- in the end all know b
+  pub spread-known : (begins j : ℕ) (p : Stand) → Spread begins j p → n ≤ j + 3 → Exact n L p.state.table
+  spread-known begins j p s far i k h hk l d =
+      let same : k ≡ b = by_cases (ℕ_discrete k b) (λ q. q) (λ q. absurd (true≢false (sym (lives k q) ∙ d))) in
+      let fits = begins-fits n b begins hb s.from in
+      let last = place-of n b begins hb s.from (n - 1) (omega arith) in
+      rw same (by_cases (dec_lt (stations_before n begins i) (n - 1)) (λ m. s.knows i h l (omega arith))
+      (λ m.
+      let q : i ≡ a = place-one n begins i a fits h a-below (omega (arith, last, place-below n begins i fits h)) in
+      rw q s.before_knows))
