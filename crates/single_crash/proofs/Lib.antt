@@ -6,3 +6,4 @@ pub mod Passes
 pub mod Around
 pub mod OnRing
 pub mod RingStages
+pub mod RingKnown

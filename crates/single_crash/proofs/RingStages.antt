@@ -19,7 +19,7 @@ use Rattle.table.specs.Wiring.{wiring_ring}
 use Rattle.table.specs.Table.{next_column, finished_column, tests_column, next_distance, finished, tests_made, suspects}
 use Rattle.table.specs.Rules.{round_over}
 use Rattle.table.proofs.SizeLaws.{size-bounds}
-use Rattle.plant.specs.Turn.{kind_turn, turn}
+use Rattle.plant.specs.Turn.{kind_turn, turn, crash}
 use Rattle.plant.proofs.RoundLaws.{Reset}
 use Rattle.granter.specs.Grant.{waits, following}
 use Rattle.granter.specs.Fairness.{stations_before}
@@ -27,15 +27,16 @@ use Rattle.granter.specs.Drive.{Stand, granted_at, grant_turn}
 use Rattle.detection.proofs.TurnEffect.{Exact}
 use Rattle.detection.proofs.RoundKnowledge.{all-finished}
 use Rattle.single_crash.specs.Sweeps.{turns_made}
+use Rattle.single_crash.specs.Setting.{crash_at}
 use Rattle.single_crash.proofs.Sweeps.{place-one, place-below, sweep-fewest, sweep-first, sweep-most}
 use Rattle.single_crash.proofs.Running.{Crew, Running, Closed, WentOn, chosen, is_live, going, kept, heads, next, moved, closes, goes_on}
-use Rattle.single_crash.proofs.Crashing.{all_but}
+use Rattle.single_crash.proofs.Crashing.{everyone, all_but, crash-same, crash-closes, crash-goes_on}
 use Rattle.single_crash.proofs.Passes.{Reaches, Passing, turns_left}
 use Rattle.single_crash.proofs.Around.{board_at, BeginsAt, board-below, begins-fits, place-of, place-zero, place-other, place-next}
 use Rattle.single_crash.proofs.Around.{before-below, before-next, other-next, before-second, before-apart, behind-below, behind-apart, begins-at}
 use Rattle.single_crash.proofs.Around.{both-apart}
 use Rattle.single_crash.proofs.Around as around
-use Rattle.single_crash.proofs.OnRing.{PassesOf, left_of, passes-fresh, counts-at, finds-at, meets-at, passes-on, had-left, one-less, one, reach-one}
+use Rattle.single_crash.proofs.OnRing.{PassesOf, left_of, passes-fresh, counts-at, finds-at, meets-at, passes-on, had-left, one-less, one, reach-one, Before}
 
 abbrev w : ℕ
 w = wiring_ring
@@ -58,7 +59,7 @@ module _ (n b : ℕ) (size : is_size n ≡ true) (four : 4 ≤ n) (hb : b < n) w
   abbrev c : ℕ
   c = around.behind n b
 
-  a-below : a < n
+  pub a-below : a < n
   a-below = before-below n b hb (omega arith)
 
   c-below : c < n
@@ -112,7 +113,7 @@ module _ (n b : ℕ) (size : is_size n ≡ true) (four : 4 ≤ n) (hb : b < n) w
   reach-before i h = by_cases (ℕ_discrete i a) (λ e. rw (e, two-at) (omega arith, reach-two)) (λ d. rw (one-at i d) (omega arith, reach-other i h d))
 
   -- so many turns are left at the most: two of each live board, and one more of a
-  left-most : (t : List ℕ) → left_of n L two_before t + 1 ≤ n + n
+  pub left-most : (t : List ℕ) → left_of n L two_before t + 1 ≤ n + n
   unfolding turns_left
   left-most t =
       let f : ℕ → ℕ = turns_left L two_before (turns_made n t) in
@@ -131,7 +132,7 @@ module _ (n b : ℕ) (size : is_size n ≡ true) (four : 4 ≤ n) (hb : b < n) w
       )
 
   -- and fewer where a has made its test
-  left-tested : (t : List ℕ) → 1 ≤ tests_made n t a → left_of n L one t + 3 ≤ n + n
+  pub left-tested : (t : List ℕ) → 1 ≤ tests_made n t a → left_of n L one t + 3 ≤ n + n
   unfolding turns_left
   left-tested t tested =
       let f : ℕ → ℕ = turns_left L one (turns_made n t) in
@@ -379,7 +380,7 @@ module _ (n b : ℕ) (size : is_size n ≡ true) (four : 4 ≤ n) (hb : b < n) w
         counts-at n L crew begins p s.run e 1 refl f.0 (omega arith)
 
     -- a has made no turn, so that the round does not close
-    spread-open : round_over n u' ≡ false
+    pub spread-open : round_over n u' ≡ false
     spread-open =
         by_bool (round_over n u')
         (λ over.
@@ -430,3 +431,73 @@ module _ (n b : ℕ) (size : is_size n ≡ true) (four : 4 ≤ n) (hb : b < n) w
       (λ m.
       let q : i ≡ a = place-one n begins i a fits h a-below (omega (arith, last, place-below n begins i fits h)) in
       rw q s.before_knows))
+
+  -- b crashes, and the round does not close with it
+  module _ (begins : ℕ) (q : Stand) (s : Before n begins q) (unclosed : round_over n (crash n q.state.table b) ≡ false) where
+    abbrev v : List ℕ
+    v = q.state.table
+
+    abbrev v' : List ℕ
+    v' = crash n v b
+
+    record Same (i : ℕ) : Type 0 where
+      pub next : next_distance n v' i ≡ next_distance n v i
+      pub made : tests_made n v' i ≡ tests_made n v i
+      pub done : finished n v' i ≡ finished n v i
+
+    same : (i : ℕ) → Same i
+    same i =
+        let at = crash-same w n b begins q crew hb s.run i in
+        record {
+          next = at next_column (omega arith) (omega arith);
+          made = at tests_column (omega arith) (omega arith);
+          done = at finished_column (omega arith) (omega arith);
+        }
+
+    on : WentOn w n L v' begins q (crash_at w n q b)
+    on = crash-goes_on w n b begins q crew hb s.run unclosed
+
+    -- where a has made no test, it tests b
+    pub crash-finding : tests_made n v a ≡ 0 → Finding begins (crash_at w n q b)
+    crash-finding none = record {
+      run = on.running;
+      passes = rw on.table (record {
+        testing = λ i h l m.
+            let z = same i in
+            by_cases (ℕ_discrete i a)
+            (λ e.
+            let at = s.passes.testing i h refl (rw e (omega (arith, none))) in
+            (omega (arith, z.next, z.made, at.0), omega (arith, z.done, at.1), rw (e, two-at) reach-two))
+            (λ d.
+            let at = s.passes.testing i h refl (omega (arith, one-at i d, z.made)) in
+            (omega (arith, z.next, z.made, at.0), omega (arith, z.done, at.1), rw (one-at i d) (reach-other i h d)));
+        tested = λ i h l m.
+            let z = same i in
+            by_cases (ℕ_discrete i a) (λ e. absurd (omega (arith, none, two-at, z.made, rw e at m, (same a).made)))
+            (λ d.
+            let at = s.passes.tested i h refl (omega (arith, one-at i d, z.made)) in
+            (omega (arith, z.next, at.0), omega (arith, one-at i d, z.made, at.1)));
+        range = λ i h. omega (arith, (same i).done, s.passes.range i h);
+      });
+      found = λ l. absurd (omega (arith, none, (same a).made, rw on.table at l));
+      told = λ l. absurd (omega (arith, none, (same a).made, rw on.table at l));
+    }
+
+    -- where it has made its test, the rest of the round brings nothing
+    pub crash-waiting : 1 ≤ tests_made n v a → Waiting begins (crash_at w n q b)
+    crash-waiting had = record {
+      run = on.running;
+      passes = rw on.table (record {
+        testing = λ i h l m.
+            let z = same i in
+            let at = s.passes.testing i h refl (omega (arith, z.made)) in
+            let d : i ≢ a = λ e. omega (arith, z.made, rw (← e) at had) in
+            (omega (arith, z.next, z.made, at.0), omega (arith, z.done, at.1), reach-other i h d);
+        tested = λ i h l m.
+            let z = same i in
+            let at = s.passes.tested i h refl (omega (arith, z.made)) in
+            (omega (arith, z.next, at.0), omega (arith, z.made, at.1));
+        range = λ i h. omega (arith, (same i).done, s.passes.range i h);
+      });
+      tested = rw on.table (omega (arith, (same a).made));
+    }
