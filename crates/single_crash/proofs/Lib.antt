@@ -2,6 +2,7 @@
 pub mod Sweeps
 pub mod Running
 pub mod Crashing
+pub mod SweepLaw
 pub mod Passes
 pub mod Around
 pub mod OnRing

@@ -72,7 +72,7 @@ pub record WentOn (w n : ℕ) (L : ℕ → Bool) (t' : List ℕ) (begins : ℕ) 
   pub running : Running w n L begins p'
 
 -- where a round begins, the going round begins at n at the most
-begins-fits : (n last : ℕ) → last_refusal n last ≡ 0 → following last ≤ n
+pub begins-fits : (n last : ℕ) → last_refusal n last ≡ 0 → following last ≤ n
 unfolding following
 begins-fits n last fits =
     by_bool (eqb last no_grant) (λ e. rw e (omega arith)) (λ e. rw e (omega (arith, last-below n last fits e)))
