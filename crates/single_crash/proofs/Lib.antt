@@ -1,8 +1,8 @@
 -- The laws that the proofs of `single_crash` share.
 pub mod Sweeps
+pub mod SweepLaw
 pub mod Running
 pub mod Crashing
-pub mod SweepLaw
 pub mod Passes
 pub mod Around
 pub mod OnRing

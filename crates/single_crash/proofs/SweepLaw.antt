@@ -1,4 +1,4 @@
--- Grants, each with its turn, go in sweeps, whatever the wiring and whoever suspects whom.
+-- A grant with its turn, whatever the wiring and whoever suspects whom; and that grants go in sweeps.
 -- Assumes nothing.
 use mathlib.Core.Path.{◌≡◌, refl, sym, ◌∙◌}
 use mathlib.Core.Logic.{by_cases}
@@ -8,9 +8,10 @@ use Prim.Native.Nat.{ℕ, zero, suc, ◌+◌, ◌≤◌, ◌<◌}
 use native.Mathlib.Decide.{ℕ_discrete}
 use native.Mathlib.Omega.{arith}
 use borrow.Author.Tests.{eqb-true, eqb-false}
+use lib.Dec.{eqb}
 use Rattle.lists.proofs.BoolLaws.{by_bool}
 use Rattle.lists.proofs.SearchLaws.{both, every-at}
-use Rattle.table.specs.Table.{finished_column, tests_column, finished, tests_made, live}
+use Rattle.table.specs.Table.{status_column, finished_column, tests_column, finished, tests_made, live}
 use Rattle.table.specs.Rules.{some_live, round_over}
 use Rattle.table.specs.Properties.{line_at_start, at_start}
 use Rattle.table.proofs.SizeLaws.{size-bounds}
@@ -20,26 +21,32 @@ use Rattle.plant.specs.Turn.{kind_turn, next_test, makes_test, outcome_at, turn}
 use Rattle.plant.specs.Round.{after_round}
 use Rattle.plant.specs.Entry.{Entry, State, state_of, entry_of, entry_refusal, acted, after}
 use Rattle.plant.proofs.RulesKept.{accepted-kept}
+use Rattle.plant.proofs.RoundLaws.{reset-other}
 use Rattle.plant.proofs.RunLaws.{accepted-number}
 use Rattle.plant.proofs.TurnHeads.{Heads, turn-heads}
-use Rattle.granter.specs.Grant.{waits, following, last_refusal, grant_refusal}
+use Rattle.granter.specs.Grant.{no_grant, waits, following, last_refusal, grant_refusal}
 use Rattle.granter.specs.Drive.{Stand, stand_at, granted_at, grant_turn, after_grants, ended, ended_after}
-use Rattle.granter.proofs.GrantLaws.{granted-waits, waits-parts, grantable, grant-zero, station-fits, turn-taken}
+use Rattle.granter.proofs.GrantLaws.{granted-waits, waits-parts, grantable, grant-zero, station-fits, last-below, turn-taken}
 use Rattle.granter.proofs.DriveLaws.{not-ended}
 use Rattle.granter.proofs.Fair.{next-going-round}
 use Rattle.detection.proofs.Fates.{was-live}
 use Rattle.single_crash.specs.Sweeps.{turns_made, InTurn, GrantsGoInSweeps}
 use Rattle.single_crash.proofs.Sweeps.{InSweep, sweep-start, Next, Moved, sweep-next, sweep-fewest, sweep-first}
-use Rattle.single_crash.proofs.Running.{begins-fits}
+
+-- where a round begins, the going round begins at n at the most
+pub begins-fits : (n last : ℕ) → last_refusal n last ≡ 0 → following last ≤ n
+unfolding following
+begins-fits n last fits =
+    by_bool (eqb last no_grant) (λ e. rw e (omega arith)) (λ e. rw e (omega (arith, last-below n last fits e)))
 
 -- where the drive stands in a round that began at place `begins`
-record Going (w n begins : ℕ) (p : Stand) : Type 0 where
+pub record Going (w n begins : ℕ) (p : Stand) : Type 0 where
   pub ok : Accepted w n p.state.table
   pub someone : some_live n p.state.table ≡ true
   pub last_fits : last_refusal n p.last ≡ 0
   pub sweep : InSweep n begins (waits n p.state.table) (turns_made n p.state.table) p.last
 
-module _ (w n begins : ℕ) (fits : begins ≤ n) (p : Stand) (now : Going w n begins p) where
+module _ (w n begins : ℕ) (p : Stand) (now : Going w n begins p) where
   abbrev t : List ℕ
   t = p.state.table
 
@@ -49,40 +56,58 @@ module _ (w n begins : ℕ) (fits : begins ≤ n) (p : Stand) (now : Going w n b
   abbrev t' : List ℕ
   t' = turn w n t kind_turn g
 
-  abbrev e : Entry
-  e = entry_of kind_turn g
-
-  -- tables do not depend on the tally
-  abbrev s : State
-  s = state_of t 0 0
-
-  chosen : (g < n) × (waits n t g ≡ true)
+  pub chosen : (g < n) × (waits n t g ≡ true)
   chosen = granted-waits n t now.ok.unclosed now.someone p.last
 
-  next : Next n (waits n t) p.last g
-  next =
-      let zero = grant-zero w n t p.last (accepted-number w n t now.ok) now.last_fits now.someone in
-      record { below = chosen.0; waiting = chosen.1; nearest = (next-going-round w n t p.last zero).2 }
-
-  in-turn : (begun : ℕ) → begins ≡ following begun → InTurn n t p.last begun
-  in-turn begun from = record {
-    fewest = sweep-fewest n begins (waits n t) (turns_made n t) p.last g fits now.sweep next;
-    first = rw (← from) (sweep-first n begins (waits n t) (turns_made n t) p.last g fits now.sweep next);
-  }
-
-  taken : entry_refusal n s e ≡ 0
-  taken = turn-taken n s g refl chosen.0 chosen.1
-
-  going : finished n t g ≡ 0
+  pub going : finished n t g ≡ 0
   going =
       let open-pass = eqb-false (finished n t g) 1 (waits-parts n t g chosen.1).1 in
       omega (arith, open-pass, (accepted-line w n t now.ok g chosen.0).pass.finished_range)
 
-  heads : Heads w n t t' g (outcome_at w n t kind_turn g (next_test w n t g)) (makes_test w n t g)
+  pub heads : Heads w n t t' g (outcome_at w n t kind_turn g (next_test w n t g)) (makes_test w n t g)
   heads = turn-heads w n t kind_turn g (now.ok.long, accepted-line w n t now.ok) chosen.0
 
+  -- it is the next in its sweep
+  pub next : Next n (waits n t) p.last g
+  next =
+      let zero = grant-zero w n t p.last (accepted-number w n t now.ok) now.last_fits now.someone in
+      record { below = chosen.0; waiting = chosen.1; nearest = (next-going-round w n t p.last zero).2 }
+
+  -- the entry, with an empty tally: tables do not depend on it
+  abbrev e : Entry
+  e = entry_of kind_turn g
+
+  abbrev s : State
+  s = state_of t 0 0
+
+  taken : entry_refusal n s e ≡ 0
+  taken = turn-taken n s g refl chosen.0 chosen.1
+
+  lived : (i : ℕ) → i < n → live n t' i ≡ true → live n t i ≡ true
+  unfolding after acted after_round
+  lived i h l = was-live w n s e now.ok taken i h (by_bool (round_over n t')
+      (λ o. rw (o, reset-other n t' i status_column (omega arith) (λ c. omega arith)) l)
+      (λ o. rw o l))
+
+  -- who waits after its turn waited before
+  waited : (i : ℕ) → i < n → waits n t' i ≡ true → waits n t i ≡ true
+  unfolding waits
+  waited i h q =
+      by_cases (ℕ_discrete i g) (λ f. rw f chosen.1)
+      (λ d.
+      let parts = waits-parts n t' i q in
+      rw (lived i h parts.0, ← (heads.others i finished_column d (omega arith)), parts.1) refl)
+
+  pub moved : Moved n (waits n t) (waits n t') (turns_made n t) (turns_made n t') g
+  moved = record {
+    waited = waited;
+    own = by_bool (makes_test w n t g) (λ m. omega (arith, going, rw m at heads.tests, rw m at heads.finish))
+        (λ m. omega (arith, going, rw m at heads.tests, rw m at heads.finish));
+    others = λ i h d. omega (arith, heads.others i finished_column d (omega arith), heads.others i tests_column d (omega arith));
+  }
+
   -- where the round has not closed
-  module _ (rounds : ℕ) (same : p.state.rounds ≡ rounds) (unended : ended n rounds (grant_turn w n p).state ≡ false) where
+  module _ (fits : begins ≤ n) (rounds : ℕ) (same : p.state.rounds ≡ rounds) (unended : ended n rounds (grant_turn w n p).state ≡ false) where
     unclosed : round_over n t' ≡ false
     unfolding grant_turn after acted
     unclosed =
@@ -96,23 +121,6 @@ module _ (w n begins : ℕ) (fits : begins ≤ n) (p : Stand) (now : Going w n b
     turned : (grant_turn w n p).state.table ≡ t'
     unfolding grant_turn after acted after_round
     turned = rw unclosed refl
-
-    waited : (i : ℕ) → i < n → waits n t' i ≡ true → waits n t i ≡ true
-    unfolding waits
-    waited i h q =
-        by_cases (ℕ_discrete i g) (λ f. rw f chosen.1)
-        (λ d.
-        let parts = waits-parts n t' i q in
-        let lives = was-live w n s e now.ok taken i h (rw table parts.0) in
-        rw (lives, ← (heads.others i finished_column d (omega arith)), parts.1) refl)
-
-    moved : Moved n (waits n t) (waits n t') (turns_made n t) (turns_made n t') g
-    moved = record {
-      waited = waited;
-      own = by_bool (makes_test w n t g) (λ m. omega (arith, going, rw m at heads.tests, rw m at heads.finish))
-          (λ m. omega (arith, going, rw m at heads.tests, rw m at heads.finish));
-      others = λ i h d. omega (arith, heads.others i finished_column d (omega arith), heads.others i tests_column d (omega arith));
-    }
 
     goes-on : Going w n begins (grant_turn w n p)
     unfolding grant_turn
@@ -155,9 +163,21 @@ module _ (w n : ℕ) (p : Stand) (granted : grant_refusal w n p.state.table p.la
   going-after (suc k) on =
       let before = going-after k (λ j h. on j (omega arith)) in
       let same = (not-ended n p.state.rounds (after_grants w n p k).state (on k (omega arith))).0 in
-      goes-on w n begins fits (after_grants w n p k) before p.state.rounds same (on (suc k) (omega arith))
+      goes-on w n begins (after_grants w n p k) before fits p.state.rounds same (on (suc k) (omega arith))
+
+  in-turn : (k : ℕ) → ((j : ℕ) → j ≤ k → ended_after w n p j ≡ false)
+      → InTurn n (after_grants w n p k).state.table (after_grants w n p k).last p.last
+  in-turn k on =
+      let q = after_grants w n p k in
+      let now = going-after k on in
+      let wait = waits n q.state.table in
+      let made = turns_made n q.state.table in
+      let chain = next w n begins q now in
+      record {
+        fewest = sweep-fewest n begins wait made q.last (granted_at n q) fits now.sweep chain;
+        first = sweep-first n begins wait made q.last (granted_at n q) fits now.sweep chain;
+      }
 
 -- the law, an end in itself
 pub grants-go-in-sweeps : GrantsGoInSweeps
-grants-go-in-sweeps w n p k granted start on =
-    in-turn w n (following p.last) (fits w n p granted start) (after_grants w n p k) (going-after w n p granted start k on) p.last refl
+grants-go-in-sweeps w n p k granted start on = in-turn w n p granted start k on
