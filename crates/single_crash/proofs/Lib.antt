@@ -7,4 +7,5 @@ pub mod Passes
 pub mod Around
 pub mod OnRing
 pub mod RingStages
+pub mod RingFirst
 pub mod RingKnown
