@@ -33,6 +33,7 @@ use Rattle.single_crash.proofs.Passes.{made-most}
 use Rattle.single_crash.proofs.Around.{BeginsAt, some-board, begins-fits, place-of, place-zero, place-next, before-below, before-next, before-apart}
 use Rattle.single_crash.proofs.Around.{both-apart, begins-at}
 use Rattle.single_crash.proofs.Around as around
+use Rattle.single_crash.proofs.RingLast.{last-closes, last-open}
 use Rattle.single_crash.proofs.OnRing.{PassesOf, counts-at, meets-at, passes-on, one, Before}
 use Rattle.single_crash.proofs.RingStages.{Waiting, Finding, Spread, crew, two_before, a-below, a-lives, lives, two-at, one-at}
 use Rattle.single_crash.proofs.RingStages.{crash-waiting, finding-fresh, waiting-on, finding-on, finding-closes, spread-on, spread-open, spread-exact}
@@ -105,53 +106,10 @@ module _ (n b : ℕ) (size : is_size n ≡ true) (four : 4 ≤ n) (hb : b < n) w
 
     -- it closes with d
     ends-with : round_over n t' ≡ true → g ≡ d
-    ends-with over =
-        by_cases (ℕ_discrete g d) (λ e. e)
-        (λ k.
-        let same = (heads w n L team begins p r).others d finished_column (λ e. k (sym e)) (omega arith) in
-        let ended = all-finished w n L t' (kept w n L team begins p r).plain over d d-below d-lives in
-        absurd (omega (arith, s.unfinished)))
-
-    -- where d finishes, all others have
-    module _ (e : d ≡ g) (ended : finished n t' d ≡ 1) where
-      twice : turns_made n t g ≡ 1
-      twice =
-          let pass = passes-on n L team begins p r one s.waiting.passes in
-          let made = (made-most n L one (next_distance n t') (tests_made n t') (finished n t') pass d d-below d-lives).1 ended in
-          omega (arith, (moved w n L team begins p r).own, rw e at made, rw e at ended)
-
-      others-ended : (i : ℕ) → i < n → L i ≡ true → finished n t' i ≡ 1
-      unfolding waits
-      others-ended i h l =
-          by_cases (ℕ_discrete i g) (λ q. ap (λ (x : ℕ). finished n t' x) (q ∙ sym e) ∙ ended)
-          (λ q.
-          let same = (heads w n L team begins p r).others i finished_column q (omega arith) in
-          by_cases (ℕ_discrete (finished n t i) 1) (λ z. same ∙ z)
-          (λ z.
-          let none : finished n t i ≡ 0 = omega (arith, s.waiting.passes.range i h) in
-          let wait : waits n t i ≡ true = rw (r.plain.lives i h, l, none) refl in
-          let chain = next w n L team begins p r in
-          let few = sweep-fewest n begins (waits n t) (turns_made n t) p.last g r.fits r.sweep chain i h wait in
-          let most = (made-most n L one (next_distance n t) (tests_made n t) (finished n t) s.waiting.passes i h l).0 in
-          let first = sweep-first n begins (waits n t) (turns_made n t) p.last g r.fits r.sweep chain i h wait (omega (arith, twice)) in
-          let last = d-last begins s.from in
-          absurd (q (place-one n begins i g r.fits h (chosen w n L team begins p r).0
-          (omega (arith, rw e at last, place-below n begins i r.fits h))))))
-
-      closing : round_over n t' ≡ true
-      unfolding live_finished
-      closing =
-          let plain = (kept w n L team begins p r).plain in
-          rw (some-live w n L team t' plain)
-          (every-all (finished_if_live n t') n (λ i h. by_bool (L i)
-          (λ l. rw (plain.lives i h, l, others-ended i h l) refl) (λ l. rw (plain.lives i h, l) refl)))
+    ends-with = last-closes n L team begins p r s.waiting.passes d d-below d-lives (d-last begins s.from) s.unfinished
 
     first-on : round_over n t' ≡ false → finished n t' d ≡ 0
-    first-on unclosed =
-        by_cases (ℕ_discrete d g)
-        (λ e. by_cases (ℕ_discrete (finished n t' d) 1) (λ ended. absurd (true≢false (sym (closing e ended) ∙ unclosed)))
-        (λ z. omega (arith, (passes-on n L team begins p r one s.waiting.passes).range d d-below)))
-        (λ k. (heads w n L team begins p r).others d finished_column k (omega arith) ∙ s.unfinished)
+    first-on = last-open n L team begins p r s.waiting.passes d d-below d-lives (d-last begins s.from) s.unfinished
 
     pub waiting-first-on : round_over n t' ≡ false → WaitingFirst begins (grant_turn w n p)
     waiting-first-on unclosed = record {
