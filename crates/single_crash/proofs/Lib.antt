@@ -10,3 +10,5 @@ pub mod RingStages
 pub mod RingLast
 pub mod RingFirst
 pub mod RingKnown
+pub mod Unaware
+pub mod RingSlow

@@ -9,6 +9,7 @@ use native.Mathlib.Decide.{dec_lt, ℕ_discrete}
 use native.Mathlib.Omega.{arith}
 use Rattle.lists.specs.Sums.{sum_below, bit}
 use Rattle.lists.proofs.BoolLaws.{by_bool}
+use Rattle.lists.proofs.SumLaws.{sum-zero}
 use Rattle.table.specs.Sizes.{is_size}
 use Rattle.table.specs.Wiring.{wiring_ring}
 use Rattle.table.specs.Table.{finished_column, next_distance, finished, tests_made, suspects}
@@ -18,12 +19,13 @@ use Rattle.plant.specs.Turn.{kind_turn, next_test, makes_test, outcome_at, turn}
 use Rattle.plant.proofs.RoundLaws.{Reset}
 use Rattle.granter.specs.Drive.{Stand, granted_at, grant_turn, after_grants}
 use Rattle.detection.proofs.TurnEffect.{Company, Row}
+use Rattle.detection.proofs.RoundKnowledge.{all-finished}
 use Rattle.detection.proofs.RingPass.{RingTurn}
 use Rattle.detection.proofs.RingTurns.{ring-turns}
 use Rattle.single_crash.specs.Sweeps.{turns_made}
 use Rattle.single_crash.proofs.Running.{Crew, Running, Closed, WentOn, chosen, is_live, going, kept, heads, moved, closes, goes_on}
 use Rattle.single_crash.proofs.Crashing.{everyone}
-use Rattle.single_crash.proofs.Passes.{Reaches, Passing, passing-start, PassTurn, passing-turn, turn-left, turns_left, left-turn}
+use Rattle.single_crash.proofs.Passes.{Reaches, Passing, made-most, passing-start, PassTurn, passing-turn, turn-left, turns_left, left-turn}
 use Rattle.single_crash.proofs.Around.{board-below}
 
 abbrev w : ℕ
@@ -109,6 +111,18 @@ module _ (n : ℕ) (L : ℕ → Bool) (crew : Crew w n L) (begins : ℕ) (p : St
     one-less =
         let m = moved w n L crew begins p r in
         left-turn n L reach (turns_made n t) (turns_made n t') g pass-turn.below pass-turn.is_live had-left m.own m.others
+
+    -- where the round closes with it, it had the last one
+    pub none-left : round_over n t' ≡ true → left_of n L reach t' ≡ 0
+    unfolding turns_left
+    none-left over =
+        sum-zero n (λ i h.
+        by_bool (L i)
+        (λ l.
+        let done = all-finished w n L t' (kept w n L crew begins p r).plain over i h l in
+        let made = (made-most n L reach (next_distance n t') (tests_made n t') (finished n t') passes-on i h l).1 done in
+        rw l (omega arith))
+        (λ l. rw l))
 
 -- a plant in which every board is live: each makes one test a round
 abbrev pub one : ℕ → ℕ
