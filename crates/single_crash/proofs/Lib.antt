@@ -12,3 +12,5 @@ pub mod RingFirst
 pub mod RingKnown
 pub mod Unaware
 pub mod RingSlow
+pub mod FreshSound
+pub mod RingReach

@@ -156,7 +156,14 @@ before-fresh n begins q two fresh run = record {
   passes = passes-fresh n everyone one q.state.table fresh (λ i h l. (omega arith, reach-one n everyone i two refl));
 }
 
--- a grant with its turn keeps it so
+-- a grant with its turn keeps it so, where the round goes on and where it closes
+pub before-on : (n : ℕ) (size : is_size n ≡ true) (begins : ℕ) (q : Stand) → Before n begins q
+    → round_over n (turn w n q.state.table kind_turn (granted_at n q)) ≡ false → Before n begins (grant_turn w n q)
+before-on n size begins q before unclosed =
+    let crew = everyone-crew n size in
+    let c = goes_on w n everyone crew begins q before.run unclosed in
+    record { run = c.running; passes = rw c.table (passes-on n everyone crew begins q before.run one before.passes) }
+
 pub before-step : (n : ℕ) → is_size n ≡ true → (begins : ℕ) (q : Stand) → Before n begins q → (c : ℕ) × Before n c (grant_turn w n q)
 before-step n size begins q before =
     let crew = everyone-crew n size in
@@ -164,9 +171,7 @@ before-step n size begins q before =
     (λ over.
     let c = closes w n everyone crew begins q before.run over in
     (_, before-fresh n _ _ (size-bounds n size).0 c.fresh c.running))
-    (λ unclosed.
-    let c = goes_on w n everyone crew begins q before.run unclosed in
-    (begins, record { run = c.running; passes = rw c.table (passes-on n everyone crew begins q before.run one before.passes) }))
+    (λ unclosed. (begins, before-on n size begins q before unclosed))
 
 pub before-all : (n : ℕ) → is_size n ≡ true → (begins : ℕ) (p : Stand) → Before n begins p → (k : ℕ) → (c : ℕ) × Before n c (after_grants w n p k)
 unfolding after_grants

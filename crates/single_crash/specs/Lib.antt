@@ -2,3 +2,4 @@
 pub mod Sweeps
 pub mod Setting
 pub mod Known
+pub mod Met
