@@ -35,7 +35,7 @@ use Rattle.single_crash.proofs.Around as around
 use Rattle.single_crash.proofs.OnRing.{left_of, one, everyone-crew, Before, one-less, none-left, before-on}
 use Rattle.single_crash.proofs.RingStages.{crew, at_place, sum-at, crash-waiting}
 use Rattle.single_crash.proofs.RingKnown.{sound-before}
-use Rattle.single_crash.proofs.RingSlow.{WaitingSlow, Slow, slow_waiting, slow-unaware, slow-after}
+use Rattle.single_crash.proofs.RingSlow.{WaitingSlow, Slow, slow_waiting, slow-unaware, slow-rounds, slow-after}
 use Rattle.single_crash.proofs.FreshSound.{fresh-is-sound}
 
 abbrev w : ℕ
@@ -252,15 +252,21 @@ module _ (n : ℕ) (size : is_size n ≡ true) (four : 4 ≤ n) where
         unaware = λ k h l. rw o.table (same k (head + 2) (omega arith) (omega arith) ∙ run.plain.accurate k 2 h hb refl refl);
       }
 
-  slow-plant : Slow n 2 size four hb (5 * n - 9) q
-  slow-plant = slow_waiting 0 slow (omega (arith, left-now))
+  slow-plant : Slow n 2 size four hb p₂.state.rounds (5 * n - 9) q
+  slow-plant =
+      let o = crash-goes_on w n 2 0 p₂ (crew n 2 size four hb) hb run crash-open in
+      slow_waiting 0 slow o.rounds (omega (arith, left-now))
+
+  slow-end : Slow n 2 size four hb p₂.state.rounds 0 (after_grants w n q (5 * n - 9))
+  slow-end =
+      let most : ℕ = 5 * n - 9 in
+      let e : 0 + most ≡ most = omega arith in
+      slow-after n 2 size four hb p₂.state.rounds 0 most q (rw e slow-plant)
 
 -- an end in itself
 pub ring-reached : RingReached
 unfolding after_grants
-ring-reached n size four =
-    let most : ℕ = 5 * n - 9 in
-    let e : 0 + most ≡ most = omega arith in
-    let start : Slow n 2 size four (hb n size four) (0 + most) (q n size four) = rw e (slow-plant n size four) in
-    let s = slow-after n 2 size four (hb n size four) 0 most (q n size four) start in
-    rw (d-is n size four) at (slow-unaware n 2 size four (hb n size four) 0 _ s)
+ring-reached n size four = record {
+  rounds = let two = slow-rounds n 2 size four (hb n size four) _ _ (slow-end n size four) in omega (arith, two);
+  unaware = rw (d-is n size four) at (slow-unaware n 2 size four (hb n size four) _ 0 _ (slow-end n size four));
+}

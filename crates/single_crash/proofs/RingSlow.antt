@@ -368,20 +368,28 @@ module _ (n b : ℕ) (size : is_size n ≡ true) (four : 4 ≤ n) (hb : b < n) w
             (s.unaware k h l v (omega arith)) (λ e. absurd (omega (arith, ap place e))) (λ e. absurd (omega (arith, ap place e))));
       }
 
-  -- that d does not know b takes so many grants at least
-  pub data Slow (m : ℕ) (p : Stand) : Type 0 where
-    slow_waiting : (begins : ℕ) → WaitingSlow begins p → m + 5 ≤ left_of n L one p.state.table + (n + n + n) → Slow m p
-    slow_finding : (begins : ℕ) → FindingSlow begins p → m + 4 ≤ left_of n L (two_before n b size four hb) p.state.table + n → Slow m p
-    slow_spread : (begins j : ℕ) → SpreadSlow begins j p → j + m + 4 ≤ n → Slow m p
+  -- after just so many grants d comes to know b next, in the third round, where `first` rounds had closed before the crash
+  pub data Slow (first m : ℕ) (p : Stand) : Type 0 where
+    slow_waiting : (begins : ℕ) → WaitingSlow begins p → p.state.rounds ≡ first → m + 5 ≡ left_of n L one p.state.table + (n + n + n)
+        → Slow first m p
+    slow_finding : (begins : ℕ) → FindingSlow begins p → p.state.rounds ≡ first + 1
+        → m + 4 ≡ left_of n L (two_before n b size four hb) p.state.table + n → Slow first m p
+    slow_spread : (begins j : ℕ) → SpreadSlow begins j p → p.state.rounds ≡ first + 2 → j + m + 4 ≡ n → Slow first m p
 
-  pub slow-unaware : (m : ℕ) (p : Stand) → Slow m p → suspects n p.state.table d b ≡ 0
-  slow-unaware m p (slow_waiting begins s most) = s.unaware d d<n d-lives
-  slow-unaware m p (slow_finding begins s most) = s.unaware d d<n d-lives (before-apart n a a<n (omega arith)) d-other
-  slow-unaware m p (slow_spread begins j s most) =
+  pub slow-unaware : (first m : ℕ) (p : Stand) → Slow first m p → suspects n p.state.table d b ≡ 0
+  slow-unaware first m p (slow_waiting begins s rounds most) = s.unaware d d<n d-lives
+  slow-unaware first m p (slow_finding begins s rounds most) = s.unaware d d<n d-lives (before-apart n a a<n (omega arith)) d-other
+  slow-unaware first m p (slow_spread begins j s rounds most) =
       s.unaware d d<n d-lives (before-apart n a a<n (omega arith)) (omega (arith, d-place begins s.spread.from))
 
-  pub slow-step : (m : ℕ) (p : Stand) → Slow (suc m) p → Slow m (grant_turn w n p)
-  slow-step m p (slow_waiting begins s most) =
+  pub slow-rounds : (first : ℕ) (p : Stand) → Slow first 0 p → p.state.rounds ≡ first + 2
+  slow-rounds first p (slow_waiting begins s rounds most) = absurd (omega arith)
+  slow-rounds first p (slow_finding begins s rounds most) =
+      absurd (omega (arith, one-less n L team begins p s.finding.run (two_before n b size four hb) s.finding.passes))
+  slow-rounds first p (slow_spread begins j s rounds most) = rounds
+
+  pub slow-step : (first m : ℕ) (p : Stand) → Slow first (suc m) p → Slow first m (grant_turn w n p)
+  slow-step first m p (slow_waiting begins s rounds most) =
       let r = s.waiting.run in
       let less = one-less n L team begins p r one s.waiting.passes in
       by_bool (round_over n (turn w n p.state.table kind_turn (granted_at n p)))
@@ -391,26 +399,30 @@ module _ (n b : ℕ) (size : is_size n ≡ true) (four : 4 ≤ n) (hb : b < n) w
       let none = none-left n L team begins p r one s.waiting.passes over in
       let fresh =
       left-fresh n b size four hb (grant_turn w n p).state.table (λ i h. omega (arith, (q.fresh i h).untested, (q.fresh i h).unfinished)) in
-      slow_finding on.0 on.1 (omega arith))
+      slow_finding on.0 on.1 (omega (arith, q.rounds)) (omega arith))
       (λ unclosed.
       let o = goes_on w n L team begins p r unclosed in
-      slow_waiting begins (waiting-slow-on begins p s unclosed) (rw o.table (omega (arith, less))))
-  slow-step m p (slow_finding begins s most) =
+      slow_waiting begins (waiting-slow-on begins p s unclosed) (omega (arith, o.rounds)) (rw o.table (omega (arith, less))))
+  slow-step first m p (slow_finding begins s rounds most) =
       let r = s.finding.run in
       let reach = two_before n b size four hb in
       let less = one-less n L team begins p r reach s.finding.passes in
       by_bool (round_over n (turn w n p.state.table kind_turn (granted_at n p)))
       (λ over.
       let on = finding-slow-closes begins p s over in
-      slow_spread on.0 0 on.1 (omega (arith, less, none-left n L team begins p r reach s.finding.passes over)))
+      slow_spread on.0 0 on.1 (omega (arith, (closes w n L team begins p r over).rounds))
+      (omega (arith, less, none-left n L team begins p r reach s.finding.passes over)))
       (λ unclosed.
       let o = goes_on w n L team begins p r unclosed in
-      slow_finding begins (finding-slow-on begins p s unclosed) (rw o.table (omega (arith, less))))
-  slow-step m p (slow_spread begins j s most) = slow_spread begins (suc j) (spread-slow-on begins j p s (omega arith)) (omega arith)
+      slow_finding begins (finding-slow-on begins p s unclosed) (omega (arith, o.rounds)) (rw o.table (omega (arith, less))))
+  slow-step first m p (slow_spread begins j s rounds most) =
+      let more : j + 3 < n = omega arith in
+      let o = goes_on w n L team begins p s.spread.run (spread-open n b size four hb begins j p s.spread more) in
+      slow_spread begins (suc j) (spread-slow-on begins j p s more) (omega (arith, o.rounds)) (omega arith)
 
-  pub slow-after : (m g : ℕ) (p : Stand) → Slow (m + g) p → Slow m (after_grants w n p g)
+  pub slow-after : (first m g : ℕ) (p : Stand) → Slow first (m + g) p → Slow first m (after_grants w n p g)
   unfolding after_grants
-  slow-after m zero p s = let e : m + 0 ≡ m = omega arith in rw e at s
-  slow-after m (suc g) p s =
+  slow-after first m zero p s = let e : m + 0 ≡ m = omega arith in rw e at s
+  slow-after first m (suc g) p s =
       let e : m + suc g ≡ suc m + g = omega arith in
-      slow-step m (after_grants w n p g) (slow-after (suc m) g p (rw e at s))
+      slow-step first m (after_grants w n p g) (slow-after first (suc m) g p (rw e at s))

@@ -8,7 +8,7 @@ use Rattle.table.specs.Fresh.{fresh_table}
 use Rattle.plant.specs.Entry.{state_of}
 use Rattle.granter.specs.Grant.{no_grant, last_refusal}
 use Rattle.granter.specs.Drive.{Stand, stand_at}
-use Rattle.single_crash.specs.Setting.{Sound, behind_crash}
+use Rattle.single_crash.specs.Setting.{Sound, behind_crash, RoundsSince}
 
 -- Rule Conditions are met: a plant with a fresh table is sound, whatever the tally, and whatever the last granted number if 16 lets it through
 abbrev pub FreshIsSound : Type 0
@@ -20,7 +20,11 @@ FreshIsSound =
 abbrev pub started : ℕ → Stand
 started n = stand_at (state_of (fresh_table n) 0 0) no_grant
 
--- Rule One dead board on the ring: if board 2 of such a plant crashes behind two grants, board 0 does not suspect it after 5n − 9 more
+-- board 2 of such a plant crashes behind two grants: after so many grants more two rounds have closed, and board 0 does not suspect it
+pub record StillUnknown (w n g : ℕ) : Type 0 where
+  pub rounds : RoundsSince w n (started n) 2 2 g 2
+  pub unaware : suspects n (behind_crash w n (started n) 2 2 g).state.table 0 2 ≡ 0
+
+-- Rule One dead board on the ring: so neither one grant less nor two rounds are enough, at any size from four boards on
 abbrev pub RingReached : Type 0
-RingReached =
-    (n : ℕ) → is_size n ≡ true → 4 ≤ n → suspects n (behind_crash wiring_ring n (started n) 2 2 (5 * n - 9)).state.table 0 2 ≡ 0
+RingReached = (n : ℕ) → is_size n ≡ true → 4 ≤ n → StillUnknown wiring_ring n (5 * n - 9)
