@@ -15,7 +15,7 @@ use Rattle.table.proofs.FreshLaws.{fresh-byte, fresh-cell}
 use Rattle.lists.proofs.SearchLaws.{every-not}
 use Rattle.granter.proofs.GrantLaws.{grant-zero}
 use Rattle.detection.proofs.FreshStart.{fresh-accepted, fresh_start}
-use Rattle.single_crash.specs.Met.{FreshIsSound}
+use Rattle.single_crash.specs.Setting.{FreshIsSound}
 
 lives : (n i : ℕ) → i < n → live n (fresh_table n) i ≡ true
 lives n i h = eq-eqb (status n (fresh_table n) i) 0 (fresh-cell n i status_column h (omega arith) ∙ fresh-byte n status_column (omega arith))

@@ -1,4 +1,4 @@
--- On the ring the bound is reached: a plant of which only boards 0 and 1 have made a turn when board 2 crashes.
+-- On the ring the bound is reached at every size, by a fresh plant of which only boards 0 and 1 have made a turn when board 2 crashes.
 -- Assumes nothing.
 use mathlib.Core.Path.{◌≡◌, refl, sym, ap, ◌∙◌}
 use mathlib.Core.Logic.{◌≢◌, inl, by_cases}
@@ -9,22 +9,29 @@ use native.Mathlib.Decide.{dec_lt, ℕ_discrete}
 use native.Mathlib.Omega.{arith}
 use borrow.Author.Tests.{le-ltb, ne_eqb}
 use lib.Dec.{leb, eqb}
+use lib.ListN.{get_or}
 use Rattle.lists.specs.Sums.{sum_below, bit}
 use Rattle.lists.proofs.BoolLaws.{by_bool}
+use Rattle.lists.specs.Search.{list_of}
+use Rattle.lists.proofs.SearchLaws.{list_of-at}
 use Rattle.lists.proofs.SumLaws.{sum_by, sum-add, sum-const}
 use Rattle.table.specs.Sizes.{is_size}
 use Rattle.table.specs.Wiring.{wiring_ring}
-use Rattle.table.specs.Table.{head, stride, cell, finished_column, next_distance, finished, tests_made, suspects}
-use Rattle.table.specs.Rules.{round_over}
+use Rattle.table.specs.Table.{head, stride, cell, finished_column, next_distance, finished, tests_made, suspects, live}
+use Rattle.table.specs.Rules.{not_live, round_over}
+use Rattle.table.specs.Properties.{exact_row}
+use Rattle.table.specs.Fresh.{fresh_table}
+use Rattle.table.proofs.CellLaws.{row_at}
+use Rattle.plant.specs.Entry.{state_of}
 use Rattle.station.proofs.WiredLaws.{place_before, place_behind}
 use Rattle.plant.specs.Turn.{kind_turn, turn, crash}
 use Rattle.granter.specs.Grant.{no_grant, waits, following, last_refusal}
 use Rattle.granter.specs.Fairness.{stations_before}
-use Rattle.granter.specs.Drive.{Stand, granted_at, grant_turn, after_grants}
+use Rattle.granter.specs.Drive.{Stand, stand_at, granted_at, grant_turn, after_grants}
 use Rattle.detection.proofs.RoundKnowledge.{all-finished}
 use Rattle.single_crash.specs.Sweeps.{turns_made}
-use Rattle.single_crash.specs.Setting.{crash_at}
-use Rattle.single_crash.specs.Met.{started, RingReached}
+use Rattle.single_crash.specs.Setting.{Sound, crash_at, behind_crash, RoundsSince, KnownDead}
+use Rattle.single_crash.specs.Ring.{RingNoFewerGrants, RingNoFewerRounds}
 use Rattle.single_crash.proofs.Sweeps.{place-one, sweep-fewest, sweep-first}
 use Rattle.single_crash.proofs.SweepLaw.{none-made}
 use Rattle.single_crash.proofs.Running.{Running, chosen, next, moved, goes_on}
@@ -40,6 +47,10 @@ use Rattle.single_crash.proofs.FreshSound.{fresh-is-sound}
 
 abbrev w : ℕ
 w = wiring_ring
+
+-- a plant that has just been started: a fresh table, and nobody was granted yet
+abbrev started : ℕ → Stand
+started n = stand_at (state_of (fresh_table n) 0 0) no_grant
 
 none-fits : (n : ℕ) → last_refusal n no_grant ≡ 0
 none-fits n = by_bool (leb n no_grant) (λ e. rw e refl) (λ e. rw e refl)
@@ -263,10 +274,34 @@ module _ (n : ℕ) (size : is_size n ≡ true) (four : 4 ≤ n) where
       let e : 0 + most ≡ most = omega arith in
       slow-after n 2 size four hb p₂.state.rounds 0 most q (rw e slow-plant)
 
--- an end in itself
-pub ring-reached : RingReached
-unfolding after_grants
-ring-reached n size four = record {
-  rounds = let two = slow-rounds n 2 size four (hb n size four) _ _ (slow-end n size four) in omega (arith, two);
-  unaware = rw (d-is n size four) at (slow-unaware n 2 size four (hb n size four) _ 0 _ (slow-end n size four));
-}
+-- so one grant fewer is not enough, nor are two rounds: ends in themselves
+module _ (n : ℕ) (size : is_size n ≡ true) (four : 4 ≤ n) where
+  abbrev end : List ℕ
+  end = (behind_crash w n (started n) 2 2 (5 * n - 9)).state.table
+
+  unaware : suspects n end 0 2 ≡ 0
+  unfolding after_grants
+  unaware = rw (d-is n size four) at (slow-unaware n 2 size four (hb n size four) _ 0 _ (slow-end n size four))
+
+  rounds-closed : RoundsSince w n (started n) 2 2 (5 * n - 9) 2
+  unfolding after_grants
+  rounds-closed = let two = slow-rounds n 2 size four (hb n size four) _ _ (slow-end n size four) in omega (arith, two)
+
+  unknown : ¬ (KnownDead n end 2)
+  unfolding exact_row
+  unknown known =
+      let mine : live n end 0 ≡ true = known.others_live 0 (omega arith) in
+      let dead : not_live n end 2 ≡ true = rw (known.others_live 2 (omega arith)) refl in
+      let row = ap (λ (r : List ℕ). get_or r 2 0) (known.exact 0 (omega arith) mine) in
+      let one : get_or (list_of (λ j. bit (not_live n end j)) n) 2 0 ≡ 1 = list_of-at (λ j. bit (not_live n end j)) n 2 (hb n size four) ∙ ap bit dead in
+      omega (arith, unaware, row_at n end 0 2 (hb n size four), row, one)
+
+  sound : Sound w n (started n)
+  sound = fresh-is-sound w n 0 0 no_grant refl size (none-fits n)
+
+pub ring-no-fewer-grants : RingNoFewerGrants
+ring-no-fewer-grants n size four claim = unknown n size four (claim (started n) 2 2 (5 * n - 9) (sound n size four) (omega arith) (omega arith))
+
+pub ring-no-fewer-rounds : RingNoFewerRounds
+ring-no-fewer-rounds n size four claim =
+    unknown n size four (claim (started n) 2 2 (5 * n - 9) (sound n size four) (omega arith) (rounds-closed n size four))

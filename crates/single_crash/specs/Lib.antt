@@ -1,5 +1,4 @@
 -- What the contracts of `single_crash` cite.
 pub mod Sweeps
 pub mod Setting
-pub mod Known
-pub mod Met
+pub mod Ring
