@@ -1,46 +1,36 @@
 -- One board crashes in a plant whose boards are all live: where the drive stands then, and when the board is known.
 -- Assumes nothing.
-use mathlib.Core.Path.{◌≡◌, refl, sym, ap, ◌∙◌}
+use mathlib.Core.Path.{◌≡◌, refl, sym, ◌∙◌}
 use mathlib.Core.Logic.{◌≢◌, by_cases}
-use mathlib.Core.Bool.{Bool, true, false, not, true≢false}
+use mathlib.Core.Bool.{Bool, true, false, not}
 use mathlib.Core.List.{List}
-use Prim.Native.Nat.{ℕ, suc, ◌+◌, ◌≤◌, ◌<◌}
+use Prim.Native.Nat.{ℕ, ◌+◌, ◌≤◌, ◌<◌}
 use native.Mathlib.Decide.{ℕ_discrete}
 use native.Mathlib.Numerals.{add-one}
 use native.Mathlib.Omega.{arith}
-use borrow.Author.Tests.{eqb-true, eqb-false, eq-eqb, ne_eqb}
+use borrow.Author.Tests.{eq-eqb, ne_eqb}
 use lib.Dec.{eqb}
 use lib.Seq.{ext_get_or}
-use Rattle.std.specs.Prelude.{Ok}
 use Rattle.lists.specs.Sums.{bit}
 use Rattle.lists.proofs.BoolLaws.{by_bool}
-use Rattle.lists.proofs.SearchLaws.{both, every-all, every-not, list_of-length, list_of-at}
-use Rattle.table.specs.Sizes.{is_size}
-use Rattle.table.specs.Wiring.{wiring_check}
-use Rattle.table.specs.Table.{head, stride, cell, status_column, next_column, finished_column, tests_column, finished, tests_made, suspects, live, row}
+use Rattle.lists.proofs.SearchLaws.{both, list_of-length, list_of-at}
+use Rattle.table.specs.Table.{head, stride, cell, status_column, finished_column, tests_column, finished, suspects, live, row}
 use Rattle.table.specs.Table.{status_crashed}
-use Rattle.table.specs.Rules.{wired_line_rules, not_live, some_live, round_over}
+use Rattle.table.specs.Rules.{not_live, round_over}
 use Rattle.table.specs.Properties.{exact_row}
-use Rattle.table.proofs.SizeLaws.{size-bounds}
-use Rattle.table.proofs.Accepting.{Accepted}
-use Rattle.table.proofs.CellLaws.{cell_same, cell_other, row-length, row_at, line-holds}
-use Rattle.plant.specs.Turn.{kind_turn, kind_crash, next_test, makes_test, outcome_at, turn, crash}
+use Rattle.table.proofs.CellLaws.{cell_same, cell_other, row-length, row_at}
+use Rattle.plant.specs.Turn.{crash}
 use Rattle.plant.specs.Round.{reset_lines, after_round}
 use Rattle.plant.specs.Entry.{state_of, acted, after}
-use Rattle.plant.proofs.RunLaws.{accepted-number}
-use Rattle.plant.proofs.RulesKept.{unfinished-open}
-use Rattle.plant.proofs.RoundLaws.{Reset, reset-cells}
+use Rattle.plant.proofs.RoundLaws.{reset-cells}
 use Rattle.plant.proofs.StepLines.{leave-lines}
-use Rattle.plant.proofs.TurnHeads.{Heads, turn-heads}
-use Rattle.granter.specs.Grant.{no_grant, waits, following, last_refusal, grant_refusal}
-use Rattle.granter.specs.Drive.{Stand, stand_at, granted_at, grant_turn}
-use Rattle.granter.proofs.GrantLaws.{granted-waits, waits-parts, grant-zero, station-fits, last-below}
-use Rattle.granter.proofs.Fair.{next-going-round}
-use Rattle.detection.proofs.TurnEffect.{Plain, Company, Grown, Exact, TurnKept, turn-effect}
+use Rattle.granter.specs.Grant.{waits}
+use Rattle.granter.specs.Drive.{Stand, stand_at}
+use Rattle.detection.proofs.TurnEffect.{Plain, Exact}
 use Rattle.detection.proofs.RoundKnowledge.{reset-rows}
 use Rattle.single_crash.specs.Sweeps.{turns_made}
 use Rattle.single_crash.specs.Setting.{crash_at, KnownDead}
-use Rattle.single_crash.proofs.Sweeps.{InSweep, sweep-start, Next, Moved, sweep-next, sweep-fewer}
+use Rattle.single_crash.proofs.Sweeps.{sweep-fewer}
 use Rattle.single_crash.proofs.Running.{Crew, Running, Closed, WentOn, begin}
 
 -- every board, and every board but b

@@ -1,13 +1,13 @@
 -- The drive on the ring: what a grant does to the passes, and the plant in which nothing is wrong.
 -- Assumes nothing.
-use mathlib.Core.Path.{◌≡◌, refl, sym, ap, ◌∙◌}
-use mathlib.Core.Logic.{◌≢◌, by_cases}
-use mathlib.Core.Bool.{Bool, true, false, not, true≢false}
+use mathlib.Core.Path.{◌≡◌, refl}
+use mathlib.Core.Logic.{by_cases}
+use mathlib.Core.Bool.{Bool, true, false}
 use mathlib.Core.List.{List}
-use Prim.Native.Nat.{ℕ, zero, suc, ◌+◌, ◌-◌, ◌%◌, ◌≤◌, ◌<◌}
-use native.Mathlib.Decide.{dec_lt, ℕ_discrete}
+use Prim.Native.Nat.{ℕ, zero, suc, ◌+◌, ◌%◌, ◌≤◌, ◌<◌}
+use native.Mathlib.Decide.{ℕ_discrete}
 use native.Mathlib.Omega.{arith}
-use Rattle.lists.specs.Sums.{sum_below, bit}
+use Rattle.lists.specs.Sums.{sum_below}
 use Rattle.lists.proofs.BoolLaws.{by_bool}
 use Rattle.lists.proofs.SumLaws.{sum-zero}
 use Rattle.table.specs.Sizes.{is_size}
@@ -18,15 +18,14 @@ use Rattle.table.proofs.SizeLaws.{size-bounds}
 use Rattle.plant.specs.Turn.{kind_turn, next_test, makes_test, outcome_at, turn}
 use Rattle.plant.proofs.RoundLaws.{Reset}
 use Rattle.granter.specs.Drive.{Stand, granted_at, grant_turn, after_grants}
-use Rattle.detection.proofs.TurnEffect.{Company, Row}
+use Rattle.detection.proofs.TurnEffect.{Row}
 use Rattle.detection.proofs.RoundKnowledge.{all-finished}
 use Rattle.detection.proofs.RingPass.{RingTurn}
 use Rattle.detection.proofs.RingTurns.{ring-turns}
 use Rattle.single_crash.specs.Sweeps.{turns_made}
-use Rattle.single_crash.proofs.Running.{Crew, Running, Closed, WentOn, chosen, is_live, going, kept, heads, moved, closes, goes_on}
+use Rattle.single_crash.proofs.Running.{Crew, Running, chosen, is_live, going, kept, heads, moved, closes, goes_on}
 use Rattle.single_crash.proofs.Crashing.{everyone}
 use Rattle.single_crash.proofs.Passes.{Reaches, Passing, made-most, passing-start, PassTurn, passing-turn, turn-left, turns_left, left-turn}
-use Rattle.single_crash.proofs.Around.{board-below}
 
 abbrev w : ℕ
 w = wiring_ring
@@ -98,14 +97,14 @@ module _ (n : ℕ) (L : ℕ → Bool) (crew : Crew w n L) (begins : ℕ) (p : St
   module _ (reach : ℕ → ℕ) (pass : PassesOf n L reach t) where
     pub passes-on : PassesOf n L reach t'
     passes-on =
-        passing-turn n L (Row n t) (Row n t') (next_distance n t) (next_distance n t') (tests_made n t) (tests_made n t') (finished n t) (finished n t')
-        g pass-turn reach pass
+        passing-turn n L (Row n t) (Row n t') (next_distance n t) (next_distance n t') (tests_made n t) (tests_made n t') (finished n t)
+        (finished n t') g pass-turn reach pass
 
     -- it had a turn left, and has one less
     pub had-left : turns_made n t g ≤ reach g
     had-left =
-        turn-left n L (Row n t) (Row n t') (next_distance n t) (next_distance n t') (tests_made n t) (tests_made n t') (finished n t) (finished n t')
-        g pass-turn reach pass
+        turn-left n L (Row n t) (Row n t') (next_distance n t) (next_distance n t') (tests_made n t) (tests_made n t') (finished n t)
+        (finished n t') g pass-turn reach pass
 
     pub one-less : suc (left_of n L reach t') ≡ left_of n L reach t
     one-less =
@@ -150,7 +149,8 @@ pub record Before (n begins : ℕ) (q : Stand) : Type 0 where
   pub run : Running w n everyone begins q
   pub passes : PassesOf n everyone one q.state.table
 
-pub before-fresh : (n begins : ℕ) (q : Stand) → 2 ≤ n → ((i : ℕ) → i < n → Reset n q.state.table i) → Running w n everyone begins q → Before n begins q
+pub before-fresh : (n begins : ℕ) (q : Stand) → 2 ≤ n → ((i : ℕ) → i < n → Reset n q.state.table i) → Running w n everyone begins q
+    → Before n begins q
 before-fresh n begins q two fresh run = record {
   run = run;
   passes = passes-fresh n everyone one q.state.table fresh (λ i h l. (omega arith, reach-one n everyone i two refl));

@@ -3,20 +3,16 @@
 -- Assumes nothing.
 use mathlib.Core.Path.{◌≡◌, refl, sym, ap, ◌∙◌}
 use mathlib.Core.Logic.{◌≢◌, by_cases}
-use mathlib.Core.Bool.{Bool, true, false, true≢false}
+use mathlib.Core.Bool.{Bool, true, false}
 use mathlib.Core.List.{List}
 use Prim.Native.Nat.{ℕ, suc, ◌+◌, ◌-◌, ◌%◌, ◌≤◌, ◌<◌}
 use native.Mathlib.Decide.{dec_lt, ℕ_discrete}
 use native.Mathlib.Omega.{arith}
-use borrow.Author.Tests.{eq-eqb, ne_eqb}
-use lib.Dec.{eqb}
-use Rattle.lists.proofs.BoolLaws.{by_bool}
-use Rattle.lists.proofs.SearchLaws.{every-all}
 use Rattle.table.specs.Sizes.{is_size}
 use Rattle.table.specs.Wiring.{wiring_ring}
 use Rattle.table.specs.Table.{finished_column, tests_column, finished, tests_made, suspects}
 use Rattle.table.specs.Table.{next_distance}
-use Rattle.table.specs.Rules.{finished_if_live, live_finished, round_over}
+use Rattle.table.specs.Rules.{round_over}
 use Rattle.table.proofs.SizeLaws.{size-bounds}
 use Rattle.plant.specs.Turn.{kind_turn, turn, crash}
 use Rattle.granter.specs.Grant.{waits, following}
@@ -26,17 +22,18 @@ use Rattle.detection.proofs.TurnEffect.{Exact}
 use Rattle.detection.proofs.RoundKnowledge.{all-finished}
 use Rattle.single_crash.specs.Sweeps.{turns_made}
 use Rattle.single_crash.specs.Setting.{crash_at}
-use Rattle.single_crash.proofs.Sweeps.{place-one, place-below, sweep-fewest, sweep-first}
-use Rattle.single_crash.proofs.Running.{Crew, Running, some-live, chosen, is_live, going, kept, heads, next, moved, closes, goes_on}
-use Rattle.single_crash.proofs.Crashing.{everyone, all_but, crash-same, crash-goes_on}
+use Rattle.single_crash.proofs.Sweeps.{place-one, place-below, sweep-first}
+use Rattle.single_crash.proofs.Running.{Crew, Running, going, kept, heads, next, closes, goes_on}
+use Rattle.single_crash.proofs.Crashing.{all_but, crash-same, crash-goes_on}
 use Rattle.single_crash.proofs.Passes.{made-most}
 use Rattle.single_crash.proofs.Around.{BeginsAt, some-board, begins-fits, place-of, place-zero, place-next, before-below, before-next, before-apart}
 use Rattle.single_crash.proofs.Around.{both-apart, begins-at}
 use Rattle.single_crash.proofs.Around as around
 use Rattle.single_crash.proofs.RingLast.{last-closes, last-open}
-use Rattle.single_crash.proofs.OnRing.{PassesOf, counts-at, meets-at, passes-on, one, Before}
-use Rattle.single_crash.proofs.RingStages.{Waiting, Finding, Spread, crew, two_before, a-below, a-lives, lives, two-at, one-at}
-use Rattle.single_crash.proofs.RingStages.{crash-waiting, finding-fresh, waiting-on, finding-on, finding-closes, spread-on, spread-open, spread-exact}
+use Rattle.single_crash.proofs.OnRing.{meets-at, passes-on, Before}
+use Rattle.single_crash.proofs.RingStages.{Waiting, Finding, Spread, crew, two_before, a-lives, lives, two-at, one-at}
+use Rattle.single_crash.proofs.RingStages.{crash-waiting, finding-fresh, waiting-on, finding-on, finding-closes, spread-on, spread-open}
+use Rattle.single_crash.proofs.RingStages.{spread-exact}
 
 abbrev w : ℕ
 w = wiring_ring
@@ -120,12 +117,14 @@ module _ (n b : ℕ) (size : is_size n ≡ true) (four : 4 ≤ n) (hb : b < n) w
 
     pub waiting-first-closes : round_over n t' ≡ true → (begins' : ℕ) × FindingFirst begins' (grant_turn w n p)
     waiting-first-closes over =
-        let z = closes w n L team begins p r over in
-        (following g, record {
-          finding = finding-fresh n b size four hb (following g) (grant_turn w n p) z.fresh z.running;
-          from = rw (ends-with over) (begins-at n a a<n (omega arith) (size-bounds n size).1);
-          heard = λ l. absurd (omega (arith, (z.fresh d d-below).untested));
-        })
+        let z = closes w n L team begins p r over in (
+          following g,
+          record {
+            finding = finding-fresh n b size four hb (following g) (grant_turn w n p) z.fresh z.running;
+            from = rw (ends-with over) (begins-at n a a<n (omega arith) (size-bounds n size).1);
+            heard = λ l. absurd (omega (arith, (z.fresh d d-below).untested));
+          },
+        )
 
   -- a grant in the round in which a tests b
   module _ (begins : ℕ) (p : Stand) (s : FindingFirst begins p) where
@@ -183,12 +182,14 @@ module _ (n b : ℕ) (size : is_size n ≡ true) (four : 4 ≤ n) (hb : b < n) w
         let ended = all-finished w n L u' (kept w n L team begins p run).plain over d d-below d-lives in
         let pass = passes-on n L team begins p run (two_before n b size four hb) s.finding.passes in
         let made =
-        (made-most n L (two_before n b size four hb) (next_distance n u') (tests_made n u') (finished n u') pass d d-below d-lives).1 ended in
-        (on.0, record {
-          spread = on.1;
-          heard = (closes w n L team begins p run over).grown d b d-below hb
-              (first-heard (omega (arith, made, one-at n b size four hb d d-other)));
-        })
+        (made-most n L (two_before n b size four hb) (next_distance n u') (tests_made n u') (finished n u') pass d d-below d-lives).1 ended in (
+          on.0,
+          record {
+            spread = on.1;
+            heard = (closes w n L team begins p run over).grown d b d-below hb
+                (first-heard (omega (arith, made, one-at n b size four hb d d-other)));
+          },
+        )
 
   pub spread-first-on : (begins j : ℕ) (p : Stand) → SpreadFirst begins j p → j + 3 < n → SpreadFirst begins (suc j) (grant_turn w n p)
   spread-first-on begins j p s more =
@@ -207,7 +208,9 @@ module _ (n b : ℕ) (size : is_size n ≡ true) (four : 4 ≤ n) (hb : b < n) w
       let fits = begins-fits n b begins hb s.spread.from in
       let here : stations_before n begins d ≡ n - 2 =
       by_cases (dec_lt (suc (stations_before n begins d)) n)
-      (λ x. omega (arith, rw d-next at (place-next n b begins hb s.spread.from d d-below x), place-of n b begins hb s.spread.from (n - 1) (omega arith)))
+      (λ x.
+      let at = rw d-next at (place-next n b begins hb s.spread.from d d-below x) in
+      omega (arith, at, place-of n b begins hb s.spread.from (n - 1) (omega arith)))
       (λ x. absurd (d-other (place-one n begins d a fits d-below a<n
       (omega (arith, place-of n b begins hb s.spread.from (n - 1) (omega arith), place-below n begins d fits d-below))))) in
       let same : i ≡ d = place-one n begins i d fits h d-below (omega arith) in

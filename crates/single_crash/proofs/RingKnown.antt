@@ -1,11 +1,11 @@
 -- On the ring all boards know the dead one within 5n − 8 grants, and in the third round.
 -- Assumes nothing.
-use mathlib.Core.Path.{◌≡◌, refl, sym, ap, ◌∙◌}
+use mathlib.Core.Path.{◌≡◌, refl, sym}
 use mathlib.Core.Logic.{◌≢◌, by_cases}
 use mathlib.Core.Bool.{Bool, true, false}
 use mathlib.Core.List.{List}
 use Prim.Native.Nat.{ℕ, zero, suc, ◌+◌, ◌-◌, ◌*◌, ◌≤◌, ◌<◌}
-use native.Mathlib.Decide.{dec_lt, ℕ_discrete}
+use native.Mathlib.Decide.{dec_lt}
 use native.Mathlib.Omega.{arith}
 use Rattle.lists.proofs.BoolLaws.{by_bool}
 use Rattle.table.specs.Sizes.{is_size}
@@ -223,7 +223,9 @@ module _ (n b : ℕ) (size : is_size n ≡ true) (four : 4 ≤ n) (hb : b < n) w
 
 -- a sound plant
 pub sound-before : (n : ℕ) (p : Stand) → Sound w n p → Before n (following p.last) p
-sound-before n p given = before-fresh n (following p.last) p (size-bounds n ok.size).0 fresh (begin w n everyone (everyone-crew n ok.size) p plain fresh g.last_fits)
+sound-before n p given =
+    before-fresh n (following p.last) p (size-bounds n ok.size).0 fresh
+    (begin w n everyone (everyone-crew n ok.size) p plain fresh g.last_fits)
   where
     g : Grantable w n p.state.table p.last
     g = grantable w n p.state.table p.last given.granted
@@ -244,8 +246,9 @@ module _ (n : ℕ) (four : 4 ≤ n) (p : Stand) (k b g : ℕ) (given : Sound w n
 
   reached : Stage n b size four hb (after_grants w n p k).state.rounds (5 * n - 8 - g) (behind_crash w n p k b g)
   reached =
+      let q : Stand = after_grants w n p k in
       let s = before-all n size (following p.last) p (sound-before n p given) k in
-      stage-after n b size four hb _ (5 * n - 8) (crash_at w n (after_grants w n p k) b) (stage-crash n b size four hb s.0 (after_grants w n p k) s.1) g
+      stage-after n b size four hb _ (5 * n - 8) (crash_at w n q b) (stage-crash n b size four hb s.0 q s.1) g
 
   known-in : Exact n (all_but b) (behind_crash w n p k b g).state.table → KnownDead n (behind_crash w n p k b g).state.table b
   known-in exact = known-dead w n b (behind_crash w n p k b g).state.table (stage-plain n b size four hb _ _ _ reached) exact

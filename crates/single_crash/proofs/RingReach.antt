@@ -4,13 +4,13 @@ use mathlib.Core.Path.{◌≡◌, refl, sym, ap, ◌∙◌}
 use mathlib.Core.Logic.{◌≢◌, inl, by_cases}
 use mathlib.Core.Bool.{Bool, true, false, ◌||◌, or-false}
 use mathlib.Core.List.{List}
-use Prim.Native.Nat.{ℕ, zero, suc, ◌+◌, ◌-◌, ◌*◌, ◌%◌, ◌≤◌, ◌<◌}
+use Prim.Native.Nat.{ℕ, suc, ◌+◌, ◌-◌, ◌*◌, ◌≤◌, ◌<◌}
 use native.Mathlib.Decide.{dec_lt, ℕ_discrete}
 use native.Mathlib.Omega.{arith}
 use borrow.Author.Tests.{le-ltb, ne_eqb}
 use lib.Dec.{leb, eqb}
 use lib.ListN.{get_or}
-use Rattle.lists.specs.Sums.{sum_below, bit}
+use Rattle.lists.specs.Sums.{bit}
 use Rattle.lists.proofs.BoolLaws.{by_bool}
 use Rattle.lists.specs.Search.{list_of}
 use Rattle.lists.proofs.SearchLaws.{list_of-at}
@@ -32,7 +32,7 @@ use Rattle.detection.proofs.RoundKnowledge.{all-finished}
 use Rattle.single_crash.specs.Sweeps.{turns_made}
 use Rattle.single_crash.specs.Setting.{Sound, crash_at, behind_crash, RoundsSince, KnownDead}
 use Rattle.single_crash.specs.Ring.{RingNoFewerGrants, RingNoFewerRounds}
-use Rattle.single_crash.proofs.Sweeps.{place-one, sweep-fewest, sweep-first}
+use Rattle.single_crash.proofs.Sweeps.{sweep-fewest, sweep-first}
 use Rattle.single_crash.proofs.SweepLaw.{none-made}
 use Rattle.single_crash.proofs.Running.{Running, chosen, next, moved, goes_on}
 use Rattle.single_crash.proofs.Crashing.{everyone, all_but, crash-plain, crash-same, crash-turns, crash-goes_on}
@@ -293,7 +293,8 @@ module _ (n : ℕ) (size : is_size n ≡ true) (four : 4 ≤ n) where
       let mine : live n end 0 ≡ true = known.others_live 0 (omega arith) in
       let dead : not_live n end 2 ≡ true = rw (known.others_live 2 (omega arith)) refl in
       let row = ap (λ (r : List ℕ). get_or r 2 0) (known.exact 0 (omega arith) mine) in
-      let one : get_or (list_of (λ j. bit (not_live n end j)) n) 2 0 ≡ 1 = list_of-at (λ j. bit (not_live n end j)) n 2 (hb n size four) ∙ ap bit dead in
+      let exact : ℕ → ℕ = λ j. bit (not_live n end j) in
+      let one : get_or (list_of exact n) 2 0 ≡ 1 = list_of-at exact n 2 (hb n size four) ∙ ap bit dead in
       omega (arith, unaware, row_at n end 0 2 (hb n size four), row, one)
 
   sound : Sound w n (started n)

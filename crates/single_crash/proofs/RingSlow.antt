@@ -11,7 +11,7 @@ use native.Mathlib.Omega.{arith}
 use Rattle.lists.proofs.BoolLaws.{by_bool}
 use Rattle.table.specs.Sizes.{is_size}
 use Rattle.table.specs.Wiring.{wiring_ring}
-use Rattle.table.specs.Table.{head, finished_column, tests_column, next_distance, finished, tests_made, suspects}
+use Rattle.table.specs.Table.{head, tests_column, next_distance, finished, tests_made, suspects}
 use Rattle.table.specs.Rules.{round_over}
 use Rattle.table.proofs.SizeLaws.{size-bounds}
 use Rattle.plant.specs.Turn.{kind_turn, turn}
@@ -22,7 +22,7 @@ use Rattle.granter.specs.Fairness.{stations_before}
 use Rattle.granter.specs.Drive.{Stand, granted_at, grant_turn, after_grants}
 use Rattle.single_crash.specs.Sweeps.{turns_made}
 use Rattle.single_crash.proofs.Sweeps.{place-one, place-below, sweep-most}
-use Rattle.single_crash.proofs.Running.{Crew, Running, Closed, chosen, is_live, going, kept, heads, next, closes, goes_on}
+use Rattle.single_crash.proofs.Running.{Crew, Running, chosen, is_live, going, heads, next, closes, goes_on}
 use Rattle.single_crash.proofs.Crashing.{all_but}
 use Rattle.single_crash.proofs.Passes.{made-most}
 use Rattle.single_crash.proofs.Around.{BeginsAt, board-below, begins-fits, place-of, place-zero, place-next, before-below, before-next, before-apart}
@@ -182,14 +182,16 @@ module _ (n b : ℕ) (size : is_size n ≡ true) (four : 4 ≤ n) (hb : b < n) w
         let q = closes w n L team begins p r over in
         let last = last-closes n L team begins p r s.waiting.passes z z<n z-lives (place-z begins s.from) s.unfinished over in
         let none : (k : ℕ) → k < n → L k ≡ true → suspects n (grant_turn w n p).state.table k b ≡ 0 =
-        λ k h l. rw q.table (closed-row t' k ∙ stays-unaware k h l) in
-        (following g, record {
-          finding = finding-fresh n b size four hb (following g) (grant_turn w n p) q.fresh q.running;
-          from = rw last (begins-at n d d<n (omega arith) (size-bounds n size).1);
-          a_unaware = λ e. none a a<n alive-a;
-          c_unaware = λ e. none c (c-below n b size four hb) (c-lives n b size four hb);
-          unaware = λ k h l x y. none k h l;
-        })
+        λ k h l. rw q.table (closed-row t' k ∙ stays-unaware k h l) in (
+          following g,
+          record {
+            finding = finding-fresh n b size four hb (following g) (grant_turn w n p) q.fresh q.running;
+            from = rw last (begins-at n d d<n (omega arith) (size-bounds n size).1);
+            a_unaware = λ e. none a a<n alive-a;
+            c_unaware = λ e. none c (c-below n b size four hb) (c-lives n b size four hb);
+            unaware = λ k h l x y. none k h l;
+          },
+        )
 
   -- a grant in the round in which a tests b
   module _ (begins : ℕ) (p : Stand) (s : FindingSlow begins p) where
@@ -342,14 +344,16 @@ module _ (n b : ℕ) (size : is_size n ≡ true) (four : 4 ≤ n) (hb : b < n) w
     pub finding-slow-closes : round_over n u' ≡ true → (begins' : ℕ) × SpreadSlow begins' 0 (grant_turn w n p)
     finding-slow-closes over =
         let on = finding-closes n b size four hb begins p s.finding over in
-        let q = closes w n L team begins p run over in
-        (on.0, record {
-          spread = on.1;
-          unaware = λ k h l v m.
-              let second = place-of n b on.0 hb on.1.from 1 (omega arith) in
-              let other : k ≢ c = λ e. omega (arith, ap (λ (i : ℕ). stations_before n on.0 i) e) in
-              rw q.table (closed-row u' k ∙ left-by.unaware k h l v other);
-        })
+        let q = closes w n L team begins p run over in (
+          on.0,
+          record {
+            spread = on.1;
+            unaware = λ k h l v m.
+                let second = place-of n b on.0 hb on.1.from 1 (omega arith) in
+                let other : k ≢ c = λ e. omega (arith, ap (λ (i : ℕ). stations_before n on.0 i) e) in
+                rw q.table (closed-row u' k ∙ left-by.unaware k h l v other);
+          },
+        )
 
   -- a grant in the round behind that
   pub spread-slow-on : (begins j : ℕ) (p : Stand) → SpreadSlow begins j p → (more : j + 3 < n) → SpreadSlow begins (suc j) (grant_turn w n p)

@@ -1,14 +1,14 @@
 -- The ring after board b has crashed, in three stages: the rest of a round in which the board before b tests b no more; a round in which it tests
 -- it; and the round behind that, in which it goes round who is dead.
 -- Assumes nothing.
-use mathlib.Core.Path.{◌≡◌, refl, sym, ap, ◌∙◌}
+use mathlib.Core.Path.{◌≡◌, refl, sym, ◌∙◌}
 use mathlib.Core.Logic.{◌≢◌, by_cases}
-use mathlib.Core.Bool.{Bool, true, false, not, cond, true≢false}
+use mathlib.Core.Bool.{Bool, true, false, cond, true≢false}
 use mathlib.Core.List.{List}
-use Prim.Native.Nat.{ℕ, zero, suc, ◌+◌, ◌-◌, ◌*◌, ◌%◌, ◌≤◌, ◌<◌}
+use Prim.Native.Nat.{ℕ, suc, ◌+◌, ◌-◌, ◌%◌, ◌≤◌, ◌<◌}
 use native.Mathlib.Decide.{dec_lt, ℕ_discrete}
 use native.Mathlib.Omega.{arith}
-use borrow.Author.Tests.{eqb-true, eq-eqb, ne_eqb}
+use borrow.Author.Tests.{eq-eqb, ne_eqb}
 use lib.Dec.{eqb}
 use Rattle.lists.specs.Sums.{sum_below, bit}
 use Rattle.lists.proofs.BoolLaws.{by_bool}
@@ -29,14 +29,14 @@ use Rattle.detection.proofs.RoundKnowledge.{all-finished}
 use Rattle.single_crash.specs.Sweeps.{turns_made}
 use Rattle.single_crash.specs.Setting.{crash_at}
 use Rattle.single_crash.proofs.Sweeps.{place-one, place-below, sweep-fewest, sweep-first, sweep-most}
-use Rattle.single_crash.proofs.Running.{Crew, Running, Closed, WentOn, chosen, is_live, going, kept, heads, next, moved, closes, goes_on}
-use Rattle.single_crash.proofs.Crashing.{everyone, all_but, crash-same, crash-closes, crash-goes_on}
-use Rattle.single_crash.proofs.Passes.{Reaches, Passing, turns_left}
+use Rattle.single_crash.proofs.Running.{Crew, Running, Closed, WentOn, chosen, is_live, going, kept, heads, next, closes, goes_on}
+use Rattle.single_crash.proofs.Crashing.{all_but, crash-same, crash-goes_on}
+use Rattle.single_crash.proofs.Passes.{Reaches, turns_left}
 use Rattle.single_crash.proofs.Around.{board_at, BeginsAt, board-below, begins-fits, place-of, place-zero, place-other, place-next}
 use Rattle.single_crash.proofs.Around.{before-below, before-next, other-next, before-second, before-apart, behind-below, behind-apart, begins-at}
 use Rattle.single_crash.proofs.Around.{both-apart}
 use Rattle.single_crash.proofs.Around as around
-use Rattle.single_crash.proofs.OnRing.{PassesOf, left_of, passes-fresh, counts-at, finds-at, meets-at, passes-on, had-left, one-less, one, reach-one, Before}
+use Rattle.single_crash.proofs.OnRing.{PassesOf, left_of, passes-fresh, counts-at, finds-at, meets-at, passes-on, had-left, one, reach-one, Before}
 
 abbrev w : ℕ
 w = wiring_ring
@@ -286,24 +286,27 @@ module _ (n b : ℕ) (size : is_size n ≡ true) (four : 4 ≤ n) (hb : b < n) w
         let ended : finished n t' a ≡ 1 = all-finished w n L t' (kept w n L crew begins p r).plain over a a-below a-lives in
         let same = h.others a finished_column (λ e. d (sym e)) (omega arith) in
         let after = by_cases (dec_lt (tests_made n t a) 2) (λ l. absurd (omega (arith, s.passes.testing a a-below a-lives (omega (arith, two-at)))))
-            (λ l. s.passes.tested a a-below a-lives (omega (arith, two-at))) in
+        (λ l. s.passes.tested a a-below a-lives (omega (arith, two-at))) in
         let most = sweep-most n begins (waits n t) (turns_made n t) p.last g r.fits r.sweep (next w n L crew begins p r) a a-below in
         absurd (omega (arith, most, after, two-at, one-at g d, had-left n L crew begins p r two_before s.passes, going w n L crew begins p r)))
 
     -- it and the one behind b know b then, and the next round begins at b
     pub finding-closes : round_over n t' ≡ true → (begins' : ℕ) × Spread begins' 0 (grant_turn w n p)
-    finding-closes over = (following g, record {
-      run = z.running;
-      from = rw (finds-last over) (begins-at n b hb (omega arith) top);
-      fresh = λ i h l m. let f = z.fresh i h in (f.next, f.untested, f.unfinished);
-      tested = λ i h l m. absurd (omega (arith, place-other n b (following g) hb from i h (apart i l)));
-      knows = λ i h l m.
-          let same : i ≡ c =
-          place-one n (following g) i c (begins-fits n b (following g) hb from) h c-below
-          (omega (arith, place-other n b (following g) hb from i h (apart i l), place-of n b (following g) hb from 1 (omega arith))) in
-          rw same (z.grown c b c-below hb (finding-told ended));
-      before_knows = z.grown a b a-below hb (finding-found (omega (arith, ended)));
-    })
+    finding-closes over = (
+      following g,
+      record {
+        run = z.running;
+        from = rw (finds-last over) (begins-at n b hb (omega arith) top);
+        fresh = λ i h l m. let f = z.fresh i h in (f.next, f.untested, f.unfinished);
+        tested = λ i h l m. absurd (omega (arith, place-other n b (following g) hb from i h (apart i l)));
+        knows = λ i h l m.
+            let same : i ≡ c =
+            place-one n (following g) i c (begins-fits n b (following g) hb from) h c-below
+            (omega (arith, place-other n b (following g) hb from i h (apart i l), place-of n b (following g) hb from 1 (omega arith))) in
+            rw same (z.grown c b c-below hb (finding-told ended));
+        before_knows = z.grown a b a-below hb (finding-found (omega (arith, ended)));
+      },
+    )
       where
         z : Closed w n L t' g p (grant_turn w n p)
         z = closes w n L crew begins p s.run over
@@ -318,8 +321,12 @@ module _ (n b : ℕ) (size : is_size n ≡ true) (four : 4 ≤ n) (hb : b < n) w
         ended =
             let done = all-finished w n L t' (kept w n L crew begins p s.run).plain over a a-below a-lives in
             by_cases (dec_lt 1 (tests_made n t' a)) (λ m. m)
-            (λ m. absurd (omega (arith, done, (passes-on n L crew begins p s.run two_before s.passes).testing a a-below a-lives
-            (omega (arith, two-at)))))
+            (λ m. absurd (omega (
+              arith,
+              done,
+              (passes-on n L crew begins p s.run two_before s.passes).testing a a-below a-lives
+                  (omega (arith, two-at)),
+            )))
 
   -- a grant in the round behind that
   module _ (begins j : ℕ) (p : Stand) (s : Spread begins j p) (more : j + 3 < n) where
