@@ -14,22 +14,28 @@ use lib.Seq.{ext_get_or}
 use Rattle.lists.specs.Sums.{bit}
 use Rattle.lists.proofs.BoolLaws.{by_bool}
 use Rattle.lists.proofs.SearchLaws.{both, list_of-length, list_of-at}
+use Rattle.std.specs.Prelude.{Ok}
+use Rattle.table.specs.Sizes.{is_size}
+use Rattle.table.specs.Wiring.{wiring_check}
 use Rattle.table.specs.Table.{head, stride, cell, status_column, finished_column, tests_column, finished, suspects, live, row}
 use Rattle.table.specs.Table.{status_crashed}
 use Rattle.table.specs.Rules.{not_live, round_over}
 use Rattle.table.specs.Properties.{exact_row}
-use Rattle.table.proofs.CellLaws.{cell_same, cell_other, row-length, row_at}
+use Rattle.table.proofs.SizeLaws.{size-bounds}
+use Rattle.table.proofs.CellLaws.{cell_same, cell_other, row-length, row_at, accepted-line}
 use Rattle.plant.specs.Turn.{crash}
 use Rattle.plant.specs.Round.{reset_lines, after_round}
 use Rattle.plant.specs.Entry.{state_of, acted, after}
-use Rattle.plant.proofs.RoundLaws.{reset-cells}
+use Rattle.plant.proofs.RoundLaws.{Reset, reset-cells}
 use Rattle.plant.proofs.StepLines.{leave-lines}
-use Rattle.granter.specs.Grant.{waits}
+use Rattle.granter.specs.Grant.{waits, following}
 use Rattle.granter.specs.Drive.{Stand, stand_at}
-use Rattle.detection.proofs.TurnEffect.{Plain, Exact}
+use Rattle.granter.proofs.GrantLaws.{Grantable, grantable}
+use Rattle.detection.proofs.TurnEffect.{Plain, Company, Exact}
 use Rattle.detection.proofs.RoundKnowledge.{reset-rows}
+use Rattle.detection.proofs.DetectionClaim.{first_round}
 use Rattle.single_crash.specs.Sweeps.{turns_made}
-use Rattle.single_crash.specs.Setting.{crash_at, KnownDead}
+use Rattle.single_crash.specs.Setting.{Sound, crash_at, KnownDead}
 use Rattle.single_crash.proofs.Sweeps.{sweep-fewer}
 use Rattle.single_crash.proofs.Running.{Crew, Running, Closed, WentOn, begin}
 
@@ -39,6 +45,48 @@ everyone i = true
 
 abbrev pub all_but : ℕ → ℕ → Bool
 all_but b i = not (eqb i b)
+
+pub everyone-crew : (w n : ℕ) → wiring_check w ≡ Ok tt → is_size n ≡ true → Crew w n everyone
+everyone-crew w n wired size =
+    let two = (size-bounds n size).0 in
+    record {
+      wired = wired;
+      size = size;
+      company = λ i h l. by_cases (ℕ_discrete i 0) (λ e. (1, omega arith, omega arith, refl)) (λ d. (0, omega arith, d, refl));
+      someone = (0, omega arith, refl);
+    }
+
+pub others-crew : (w n b : ℕ) → wiring_check w ≡ Ok tt → is_size n ≡ true → 3 ≤ n → Crew w n (all_but b)
+others-crew w n b wired size three = record {
+  wired = wired;
+  size = size;
+  company = λ i h l. third i;
+  someone = let z = third b in (z.0, z.1, z.3);
+}
+  where
+    -- some board is neither i nor b
+    third : (i : ℕ) → (j : ℕ) × (j < n) × (i ≢ j) × (all_but b j ≡ true)
+    third i =
+        let other : (j : ℕ) → b ≢ j → all_but b j ≡ true = λ j d. rw (ne_eqb j b (λ e. d (sym e))) refl in
+        by_cases (ℕ_discrete i 0)
+        (λ e. by_cases (ℕ_discrete b 1) (λ f. (2, omega arith, omega arith, other 2 (omega arith))) (λ f. (1, omega arith, omega arith, other 1 f)))
+        (λ d. by_cases (ℕ_discrete b 0)
+        (λ f. by_cases (ℕ_discrete i 1) (λ e. (2, omega arith, omega arith, other 2 (omega arith))) (λ e. (1, omega arith, e, other 1 (omega arith))))
+        (λ f. (0, omega arith, d, other 0 f)))
+
+-- a sound plant
+pub sound-fresh : (w n : ℕ) (p : Stand) → Sound w n p → (i : ℕ) → i < n → Reset n p.state.table i
+sound-fresh w n p given =
+    (first_round w n p.state.table (grantable w n p.state.table p.last given.granted).ok given.start (λ i j h k a c. given.nobody i j h k)).fresh
+
+pub sound-run : (w n : ℕ) (p : Stand) → Sound w n p → Running w n everyone (following p.last) p
+sound-run w n p given =
+    let g = grantable w n p.state.table p.last given.granted in
+    begin w n everyone (everyone-crew w n g.ok.wired g.ok.size) p (record {
+      lines = (g.ok.long, accepted-line w n p.state.table g.ok);
+      lives = given.all_live;
+      accurate = λ i j h k a c. given.nobody i j h k;
+    }) (sound-fresh w n p given) g.last_fits
 
 -- b crashes in a plant whose boards are all live, and in which nobody suspects anybody
 module _ (w n b begins : ℕ) (q : Stand) (crew : Crew w n (all_but b)) (hb : b < n) (r : Running w n everyone begins q) where
@@ -113,6 +161,10 @@ module _ (w n b begins : ℕ) (q : Stand) (crew : Crew w n (all_but b)) (hb : b 
               r.sweep;
         };
       })
+
+  pub crash-runs : (c : ℕ) × Running w n (all_but b) c q'
+  crash-runs =
+      by_bool (round_over n t') (λ over. (_, (crash-closes over).running)) (λ unclosed. (_, (crash-goes_on unclosed).running))
 
   -- it makes no turn
   pub crash-turns : round_over n t' ≡ false → (i : ℕ) → turns_made n q'.state.table i ≡ turns_made n t i

@@ -4,6 +4,7 @@ pub mod SweepLaw
 pub mod Running
 pub mod Crashing
 pub mod FreshSound
+pub mod Drives
 pub mod Passes
 pub mod Around
 pub mod OnRing

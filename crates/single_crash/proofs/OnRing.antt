@@ -24,7 +24,7 @@ use Rattle.detection.proofs.RingPass.{RingTurn}
 use Rattle.detection.proofs.RingTurns.{ring-turns}
 use Rattle.single_crash.specs.Sweeps.{turns_made}
 use Rattle.single_crash.proofs.Running.{Crew, Running, chosen, is_live, going, kept, heads, moved, closes, goes_on}
-use Rattle.single_crash.proofs.Crashing.{everyone}
+use Rattle.single_crash.proofs.Crashing.{everyone, everyone-crew}
 use Rattle.single_crash.proofs.Passes.{Reaches, Passing, made-most, passing-start, PassTurn, passing-turn, turn-left, turns_left, left-turn}
 
 abbrev w : ℕ
@@ -134,16 +134,6 @@ reach-one n L i two l = record {
   last = λ m e. let z : suc m ≡ 1 = omega arith in rw z l;
 }
 
-pub everyone-crew : (n : ℕ) → is_size n ≡ true → Crew w n everyone
-everyone-crew n size =
-    let two = (size-bounds n size).0 in
-    record {
-      wired = refl;
-      size = size;
-      company = λ i h l. by_cases (ℕ_discrete i 0) (λ e. (1, omega arith, omega arith, refl)) (λ d. (0, omega arith, d, refl));
-      someone = (0, omega arith, refl);
-    }
-
 -- where the drive stands before the crash
 pub record Before (n begins : ℕ) (q : Stand) : Type 0 where
   pub run : Running w n everyone begins q
@@ -160,13 +150,13 @@ before-fresh n begins q two fresh run = record {
 pub before-on : (n : ℕ) (size : is_size n ≡ true) (begins : ℕ) (q : Stand) → Before n begins q
     → round_over n (turn w n q.state.table kind_turn (granted_at n q)) ≡ false → Before n begins (grant_turn w n q)
 before-on n size begins q before unclosed =
-    let crew = everyone-crew n size in
+    let crew = everyone-crew w n refl size in
     let c = goes_on w n everyone crew begins q before.run unclosed in
     record { run = c.running; passes = rw c.table (passes-on n everyone crew begins q before.run one before.passes) }
 
 pub before-step : (n : ℕ) → is_size n ≡ true → (begins : ℕ) (q : Stand) → Before n begins q → (c : ℕ) × Before n c (grant_turn w n q)
 before-step n size begins q before =
-    let crew = everyone-crew n size in
+    let crew = everyone-crew w n refl size in
     by_bool (round_over n (turn w n q.state.table kind_turn (granted_at n q)))
     (λ over.
     let c = closes w n everyone crew begins q before.run over in

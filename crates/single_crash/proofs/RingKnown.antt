@@ -26,10 +26,10 @@ use Rattle.single_crash.specs.Sweeps.{turns_made}
 use Rattle.single_crash.specs.Setting.{Sound, crash_at, behind_crash, RoundsSince, KnownDead}
 use Rattle.single_crash.specs.Ring.{RingInGrants, RingInRounds}
 use Rattle.single_crash.proofs.Running.{Running, begin, closes, goes_on, stays_known, runs_on}
-use Rattle.single_crash.proofs.Crashing.{everyone, all_but, crash-closes, crash-goes_on, crash-turns, known-dead}
+use Rattle.single_crash.proofs.Crashing.{everyone, all_but, sound-fresh, sound-run, crash-closes, crash-goes_on, crash-turns, known-dead}
 use Rattle.single_crash.proofs.Around.{before-below, before-apart}
 use Rattle.single_crash.proofs.Around as around
-use Rattle.single_crash.proofs.OnRing.{left_of, one, one-less, everyone-crew, Before, before-fresh, before-all}
+use Rattle.single_crash.proofs.OnRing.{left_of, one, one-less, Before, before-fresh, before-all}
 use Rattle.single_crash.proofs.RingStages.{Waiting, Finding, Spread, crew, a-below, a-lives, two_before, left-most, left-made, finding-fresh}
 use Rattle.single_crash.proofs.RingStages.{waiting-on}
 use Rattle.single_crash.proofs.RingFirst.{WaitingFirst, FindingFirst, SpreadFirst, d-lives, waiting-first-on, waiting-first-closes}
@@ -224,20 +224,8 @@ module _ (n b : ℕ) (size : is_size n ≡ true) (four : 4 ≤ n) (hb : b < n) w
 -- a sound plant
 pub sound-before : (n : ℕ) (p : Stand) → Sound w n p → Before n (following p.last) p
 sound-before n p given =
-    before-fresh n (following p.last) p (size-bounds n ok.size).0 fresh
-    (begin w n everyone (everyone-crew n ok.size) p plain fresh g.last_fits)
-  where
-    g : Grantable w n p.state.table p.last
-    g = grantable w n p.state.table p.last given.granted
-
-    ok : Accepted w n p.state.table
-    ok = g.ok
-
-    fresh : (i : ℕ) → i < n → Reset n p.state.table i
-    fresh = (first_round w n p.state.table ok given.start (λ i j h k a c. given.nobody i j h k)).fresh
-
-    plain : Plain w n everyone p.state.table
-    plain = record { lines = (ok.long, accepted-line w n p.state.table ok); lives = given.all_live; accurate = λ i j h k a c. given.nobody i j h k }
+    let ok = (grantable w n p.state.table p.last given.granted).ok in
+    before-fresh n (following p.last) p (size-bounds n ok.size).0 (sound-fresh w n p given) (sound-run w n p given)
 
 -- where the drive stands g grants behind the crash
 module _ (n : ℕ) (four : 4 ≤ n) (p : Stand) (k b g : ℕ) (given : Sound w n p) (hb : b < n) where

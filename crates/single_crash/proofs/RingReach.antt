@@ -35,11 +35,11 @@ use Rattle.single_crash.specs.Ring.{RingNoFewerGrants, RingNoFewerRounds}
 use Rattle.single_crash.proofs.Sweeps.{sweep-fewest, sweep-first}
 use Rattle.single_crash.proofs.SweepLaw.{none-made}
 use Rattle.single_crash.proofs.Running.{Running, chosen, next, moved, goes_on}
-use Rattle.single_crash.proofs.Crashing.{everyone, all_but, crash-plain, crash-same, crash-turns, crash-goes_on}
+use Rattle.single_crash.proofs.Crashing.{everyone, all_but, everyone-crew, crash-plain, crash-same, crash-turns, crash-goes_on}
 use Rattle.single_crash.proofs.Passes.{made-most, turns_left}
 use Rattle.single_crash.proofs.Around.{BeginsAt, place-zero, place-next}
 use Rattle.single_crash.proofs.Around as around
-use Rattle.single_crash.proofs.OnRing.{left_of, one, everyone-crew, Before, one-less, none-left, before-on}
+use Rattle.single_crash.proofs.OnRing.{left_of, one, Before, one-less, none-left, before-on}
 use Rattle.single_crash.proofs.RingStages.{crew, at_place, sum-at, crash-waiting}
 use Rattle.single_crash.proofs.RingKnown.{sound-before}
 use Rattle.single_crash.proofs.RingSlow.{WaitingSlow, Slow, slow_waiting, slow-unaware, slow-rounds, slow-after}
@@ -100,8 +100,8 @@ module _ (n : ℕ) (size : is_size n ≡ true) (four : 4 ≤ n) where
     at-x : g ≡ x
     at-x =
         let r = s.before.run in
-        let chain = next w n everyone (everyone-crew n size) 0 p r in
-        let g<n = (chosen w n everyone (everyone-crew n size) 0 p r).0 in
+        let chain = next w n everyone (everyone-crew w n refl size) 0 p r in
+        let g<n = (chosen w n everyone (everyone-crew w n refl size) 0 p r).0 in
         let zero : turns_made n t x ≡ 0 = s.turns x (omega arith) ∙ none in
         let few = sweep-fewest n 0 (waits n t) (turns_made n t) p.last g r.fits r.sweep chain x (omega arith) x-waits in
         let same : turns_made n t g ≡ 0 = omega arith in
@@ -111,7 +111,7 @@ module _ (n : ℕ) (size : is_size n ≡ true) (four : 4 ≤ n) where
 
     pub one-open : round_over n t' ≡ false
     one-open =
-        let crew = everyone-crew n size in
+        let crew = everyone-crew w n refl size in
         let r = s.before.run in
         by_bool (round_over n t')
         (λ over.
@@ -120,7 +120,7 @@ module _ (n : ℕ) (size : is_size n ≡ true) (four : 4 ≤ n) where
 
     pub first-on : (made' : ℕ → ℕ) → made' x ≡ 1 → ((i : ℕ) → i ≢ x → made' i ≡ made i) → First (grant_turn w n p) made'
     first-on made' own same =
-        let crew = everyone-crew n size in
+        let crew = everyone-crew w n refl size in
         let r = s.before.run in
         let m = moved w n everyone crew 0 p r in
         let o = goes_on w n everyone crew 0 p r one-open in
@@ -133,7 +133,7 @@ module _ (n : ℕ) (size : is_size n ≡ true) (four : 4 ≤ n) where
 
     pub first-left : suc (left_of n everyone one (grant_turn w n p).state.table) ≡ left_of n everyone one t
     first-left =
-        let crew = everyone-crew n size in
+        let crew = everyone-crew w n refl size in
         let r = s.before.run in
         rw (goes_on w n everyone crew 0 p r one-open).table (one-less n everyone crew 0 p r one s.before.passes)
 

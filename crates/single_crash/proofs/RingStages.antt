@@ -30,7 +30,7 @@ use Rattle.single_crash.specs.Sweeps.{turns_made}
 use Rattle.single_crash.specs.Setting.{crash_at}
 use Rattle.single_crash.proofs.Sweeps.{place-one, place-below, sweep-fewest, sweep-first, sweep-most}
 use Rattle.single_crash.proofs.Running.{Crew, Running, Closed, WentOn, chosen, is_live, going, kept, heads, next, closes, goes_on}
-use Rattle.single_crash.proofs.Crashing.{all_but, crash-same, crash-goes_on}
+use Rattle.single_crash.proofs.Crashing.{all_but, others-crew, crash-same, crash-goes_on}
 use Rattle.single_crash.proofs.Passes.{Reaches, turns_left}
 use Rattle.single_crash.proofs.Around.{board_at, BeginsAt, board-below, begins-fits, place-of, place-zero, place-other, place-next}
 use Rattle.single_crash.proofs.Around.{before-below, before-next, other-next, before-second, before-apart, behind-below, behind-apart, begins-at}
@@ -81,13 +81,7 @@ module _ (n b : ℕ) (size : is_size n ≡ true) (four : 4 ≤ n) (hb : b < n) w
   b-dead = rw (eq-eqb b b refl) refl
 
   pub crew : Crew w n L
-  crew = record {
-    wired = refl;
-    size = size;
-    company = λ i h l. by_cases (ℕ_discrete i a) (λ e. (c, c-below, λ f. both-apart n b hb (omega arith) (sym e ∙ f), c-lives))
-        (λ d. (a, a-below, d, a-lives));
-    someone = (a, a-below, a-lives);
-  }
+  crew = others-crew w n b refl size (omega arith)
 
   -- how many tests each makes in a round that begins now: the one before b tests b and the one behind it
   abbrev pub two_before : ℕ → ℕ

@@ -3,7 +3,7 @@
 use mathlib.Core.Path.{◌≡◌, refl, sym, ◌∙◌}
 use mathlib.Core.Bool.{Bool, true, false}
 use mathlib.Core.List.{List}
-use Prim.Native.Nat.{ℕ, suc, ◌≤◌, ◌<◌}
+use Prim.Native.Nat.{ℕ, zero, suc, ◌≤◌, ◌<◌}
 use native.Mathlib.Numerals.{add-one}
 use native.Mathlib.Omega.{arith}
 use Rattle.std.specs.Prelude.{Ok}
@@ -23,7 +23,7 @@ use Rattle.plant.proofs.RulesKept.{unfinished-open}
 use Rattle.plant.proofs.RoundLaws.{Reset, reset-cells}
 use Rattle.plant.proofs.TurnHeads.{Heads}
 use Rattle.granter.specs.Grant.{waits, following, last_refusal}
-use Rattle.granter.specs.Drive.{Stand, stand_at, granted_at, grant_turn}
+use Rattle.granter.specs.Drive.{Stand, stand_at, granted_at, grant_turn, after_grants}
 use Rattle.granter.proofs.GrantLaws.{waits-parts, station-fits}
 use Rattle.detection.proofs.TurnEffect.{Plain, Company, Grown, Exact, TurnKept, turn-effect}
 use Rattle.detection.proofs.RoundKnowledge.{reset-rows}
@@ -179,3 +179,9 @@ module _ (w n : ℕ) (L : ℕ → Bool) (crew : Crew w n L) where
     -- and a drive runs on
     pub runs_on : (b : ℕ) × Running w n L b p'
     runs_on = by_bool (round_over n t') (λ over. (_, (closes over).running)) (λ unclosed. (_, (goes_on unclosed).running))
+
+  -- after any number of grants
+  pub runs-after : (begins : ℕ) (p : Stand) → Running w n L begins p → (k : ℕ) → (b : ℕ) × Running w n L b (after_grants w n p k)
+  unfolding after_grants
+  runs-after begins p r zero = (begins, r)
+  runs-after begins p r (suc k) = let before = runs-after begins p r k in runs_on before.0 (after_grants w n p k) before.1
