@@ -30,8 +30,8 @@ use Rattle.plant.proofs.RoundLaws.{Reset, reset-cells}
 use Rattle.plant.proofs.StepLines.{leave-lines}
 use Rattle.granter.specs.Grant.{waits, following}
 use Rattle.granter.specs.Drive.{Stand, stand_at}
-use Rattle.granter.proofs.GrantLaws.{Grantable, grantable}
-use Rattle.detection.proofs.TurnEffect.{Plain, Company, Exact}
+use Rattle.granter.proofs.GrantLaws.{grantable}
+use Rattle.detection.proofs.TurnEffect.{Plain, Exact}
 use Rattle.detection.proofs.RoundKnowledge.{reset-rows}
 use Rattle.detection.proofs.DetectionClaim.{first_round}
 use Rattle.single_crash.specs.Sweeps.{turns_made}
@@ -64,15 +64,20 @@ others-crew w n b wired size three = record {
   someone = let z = third b in (z.0, z.1, z.3);
 }
   where
+    Third : ℕ → Type 0
+    Third i = (j : ℕ) × (j < n) × (i ≢ j) × (all_but b j ≡ true)
+
+    at : (i j : ℕ) → j < n → i ≢ j → b ≢ j → Third i
+    at i j h d e = (j, h, d, rw (ne_eqb j b (λ q. e (sym q))) refl)
+
     -- some board is neither i nor b
-    third : (i : ℕ) → (j : ℕ) × (j < n) × (i ≢ j) × (all_but b j ≡ true)
+    third : (i : ℕ) → Third i
     third i =
-        let other : (j : ℕ) → b ≢ j → all_but b j ≡ true = λ j d. rw (ne_eqb j b (λ e. d (sym e))) refl in
         by_cases (ℕ_discrete i 0)
-        (λ e. by_cases (ℕ_discrete b 1) (λ f. (2, omega arith, omega arith, other 2 (omega arith))) (λ f. (1, omega arith, omega arith, other 1 f)))
+        (λ e. by_cases (ℕ_discrete b 1) (λ f. at i 2 (omega arith) (omega arith) (omega arith)) (λ f. at i 1 (omega arith) (omega arith) f))
         (λ d. by_cases (ℕ_discrete b 0)
-        (λ f. by_cases (ℕ_discrete i 1) (λ e. (2, omega arith, omega arith, other 2 (omega arith))) (λ e. (1, omega arith, e, other 1 (omega arith))))
-        (λ f. (0, omega arith, d, other 0 f)))
+        (λ f. by_cases (ℕ_discrete i 1) (λ e. at i 2 (omega arith) (omega arith) (omega arith)) (λ e. at i 1 (omega arith) e (omega arith)))
+        (λ f. at i 0 (omega arith) d f))
 
 -- a sound plant
 pub sound-fresh : (w n : ℕ) (p : Stand) → Sound w n p → (i : ℕ) → i < n → Reset n p.state.table i

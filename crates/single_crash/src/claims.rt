@@ -1,5 +1,5 @@
-// What is claimed of grants (specs/Sweeps.antt) and drives (specs/Drives.antt), and that the plant can be as it is supposed to be (specs/Setting.antt),
-// each a clause of a function that does nothing.
+// What is claimed of grants (specs/Sweeps.antt) and drives (specs/Drives.antt), and that the plant can be as it is supposed to be
+// (specs/Setting.antt), each a clause of a function that does nothing.
 
 ghost use Rattle.single_crash.specs.Drives.{DrivesAreGrants, RoundsByDrives};
 ghost use Rattle.single_crash.specs.Setting.{FreshIsSound};
