@@ -3,7 +3,6 @@ ghost use Rattle.std.specs.Prelude.{◌≡◌, ◌<◌, length, IfOk, slice_inde
 ghost use Rattle.std.specs.Result.{result_map_both};
 ghost use Rattle.table.specs.Rules.{row_rule_by, length_check};
 ghost use Rattle.table.specs.Table.{stride, tests_column};
-ghost use Rattle.table.specs.Wiring.{wiring_number};
 ghost use Rattle.board.specs.Packed.{packed_length};
 ghost use Rattle.board.specs.Calls.{line_rules, place_check, line_check, live_check, turn_check, sent_check};
 
@@ -25,7 +24,7 @@ impl Board {
     ) -> Result<Board, Refusal>
         ensures check { result_map_both (λ b. tt) (λ r. r) result
             ≡ place_check wiring n own.0 len }
-        ensures same_wiring { IfOk result (λ b. wiring_number b.wired.wiring ≡ wiring) }
+        ensures same_wiring { IfOk result (λ b. b.wired.wiring ≡ wiring) }
         ensures same_size { IfOk result (λ b. b.wired.n ≡ n) }
         ensures same_number { IfOk result (λ b. b.own ≡ own) }
         ensures line_fits { IfOk result (λ b. len ≡ stride b.wired.n) }
@@ -49,7 +48,7 @@ impl Board {
     #[tactic(auto, using(crate::proofs::CallLaws::place_ok, crate::proofs::CallLaws::rules_tests), unfolding(crate::specs::Calls::line_check))]
     pub(crate) fn check_line(self, line: &[u8]) -> Result<(), Refusal>
         requires { length line.now ≡ stride self.wired.n }
-        ensures check { let w = wiring_number self.wired.wiring in
+        ensures check { let w = self.wired.wiring in
             result ≡ line_check w self.wired.n self.own.0 line.now }
         ensures tests_fit { IfOk result (λ u. slice_index line.now tests_column < 255) }
     {
@@ -63,7 +62,7 @@ impl Board {
     #[tactic(auto, unfolding(crate::specs::Calls::live_check))]
     pub(crate) fn check_live(self, line: &[u8]) -> Result<(), Refusal>
         requires { length line.now ≡ stride self.wired.n }
-        ensures check { let w = wiring_number self.wired.wiring in
+        ensures check { let w = self.wired.wiring in
             result ≡ live_check w self.wired.n self.own.0 line.now }
         ensures tests_fit { IfOk result (λ u. slice_index line.now tests_column < 255) }
     {
@@ -78,7 +77,7 @@ impl Board {
     #[tactic(auto, unfolding(crate::specs::Calls::turn_check))]
     pub(crate) fn check_turn(self, line: &[u8]) -> Result<(), Refusal>
         requires { length line.now ≡ stride self.wired.n }
-        ensures check { let w = wiring_number self.wired.wiring in
+        ensures check { let w = self.wired.wiring in
             result ≡ turn_check w self.wired.n self.own.0 line.now }
         ensures tests_fit { IfOk result (λ u. slice_index line.now tests_column < 255) }
     {
@@ -93,7 +92,7 @@ impl Board {
     #[tactic(auto, unfolding(crate::specs::Calls::sent_check))]
     pub(crate) fn check_sent(self, line: &[u8], from: Station) -> Result<(), Refusal>
         requires { length line.now ≡ stride self.wired.n }
-        ensures { let w = wiring_number self.wired.wiring in
+        ensures { let w = self.wired.wiring in
             result ≡ sent_check w self.wired.n self.own.0 line.now from.0 }
     {
         self.check_live(line)?;
@@ -117,11 +116,11 @@ impl Board {
     }
 
     // Whether the line keeps the line rules.
-    #[tactic(auto, using(table::proofs::StatusLaws::status_ok, table::proofs::StatusLaws::status_err, crate::proofs::RowLaws::row_rule_by_row), unfolding(crate::specs::Calls::line_rules))]
+    #[tactic(auto, using(table::proofs::StatusLaws::status_ok, table::proofs::StatusLaws::status_err, crate::proofs::RowLaws::row_rule_by_row), unfolding(crate::specs::Calls::line_rules Cube))]
     fn keeps_line_rules(self, line: &[u8]) -> bool
         requires { length line.now ≡ stride self.wired.n }
-        ensures { let w = wiring_number self.wired.wiring in
-            result ≡ line_rules w self.wired.n self.own.0 line.now }
+        ensures { let w = self.wired.wiring in
+            result ≡ line_rules Cube w self.wired.n self.own.0 line.now }
     {
         let Ok(status) = Status::try_from(line[board::STATUS]) else {
             return false;

@@ -15,6 +15,7 @@ use Rattle.table.specs.Fresh.{fresh_table}
 use Rattle.table.specs.Properties.{at_start, live_count, none_suspected}
 use Rattle.table.proofs.Accepting.{Accepted, accepted}
 use Rattle.table.proofs.LineLaws.{line_at}
+use Rattle.table.specs.declared.wiring.Wiring.{Wiring}
 use Rattle.plant.proofs.RunLaws.{accepted-number}
 use Rattle.detection.proofs.DetectionClaim.{trusts, first_round}
 use Rattle.detection.proofs.FreshStart.{fresh-accepted, fresh-premises}
@@ -25,7 +26,7 @@ use Rattle.cable.proofs.LineFacts.{lines-of-tables}
 use Rattle.cable.proofs.FreshLines.{fresh-boards}
 use Rattle.board_detection.specs.Detect.{live_boards, BoardsBegin, FreshBoardsBegin}
 
-module _ (w n : ℕ) (t : List ℕ) (ok : Accepted w n t) (start : at_start n t ≡ true) (two : 2 ≤ live_count n t)
+module _ (w : Wiring) (n : ℕ) (t : List ℕ) (ok : Accepted w n t) (start : at_start n t ≡ true) (two : 2 ≤ live_count n t)
     (none : none_suspected n t ≡ true) (b : Lines) (same : (k : ℕ) → k < n → b k ≡ line n t k) where
   byte : (k c : ℕ) → k < n → c < stride n → get_or (b k) c 0 ≡ cell n t k c
   byte k c h hc = ap (λ (l : List ℕ). get_or l c 0) (same k h) ∙ line_at n t k c hc

@@ -11,8 +11,9 @@ use Rattle.lists.specs.Refusal.{number_of_result}
 use Rattle.lists.proofs.BoolLaws.{by_bool, least-same}
 use Rattle.lists.proofs.RefusalLaws.{and_same}
 use Rattle.std.proofs.lemmas.List.Elements.{All-head, All-tail}
-use Rattle.table.specs.Rules.{numbered_table_check}
+use Rattle.table.specs.Rules.{table_check}
 use Rattle.table.proofs.Accepting.{Accepted, accepted, table_ok}
+use Rattle.table.specs.declared.wiring.Wiring.{Wiring}
 use Rattle.plant.specs.Turn.{kind_turn}
 use Rattle.plant.specs.Entry.{Entry, State, entry_of, tally_full, entry_refusal}
 use Rattle.plant.proofs.RulesKept.{accepted-kept}
@@ -45,7 +46,7 @@ module _ (n : ℕ) (t u : List ℕ) (tw : Twins n t u) where
   granted-same last = rw (first-same (following last), first-same 0)
 
 -- a grant of any size
-module _ (w n : ℕ) (s r : State) (a : Alike w n s r) (v m last : ℕ) (on : IsOn w v) where
+module _ (w : Wiring) (n : ℕ) (s r : State) (a : Alike w n s r) (v m last : ℕ) (on : IsOn w v) where
   tables : Twins n s.table r.table
   tables = (alike-both w n s r a).tables
 
@@ -53,7 +54,7 @@ module _ (w n : ℕ) (s r : State) (a : Alike w n s r) (v m last : ℕ) (on : Is
   unfolding grant_check
   grant-checked =
       rw (tables-checked w n s r a v m on)
-      (and_same (numbered_table_check v m r.table) _ _
+      (and_same (table_check v m r.table) _ _
       (λ ok. rw (size-is w n s r a m (sym (table_ok v m r.table tt ok).long), some-live-same n s.table r.table tables)))
 
   grant-same : grant_answer v m s.table last ≡ grant_answer v m r.table last
@@ -67,7 +68,7 @@ pub grant-of-alike : GrantOfAlike
 grant-of-alike = grant-same
 
 -- where two drives stand after k grants
-record Grants (w n : ℕ) (p q : Stand) (k : ℕ) : Type 0 where
+record Grants (w : Wiring) (n : ℕ) (p q : Stand) (k : ℕ) : Type 0 where
   both : Both n (after_grants w n p k).state (after_grants w n q k).state
   last : (after_grants w n p k).last ≡ (after_grants w n q k).last
   ok : Accepted w n (after_grants w n p k).state.table
@@ -75,7 +76,7 @@ record Grants (w n : ℕ) (p q : Stand) (k : ℕ) : Type 0 where
   step : Step n p.state.table q.state.table (after_grants w n p k).state.table (after_grants w n q k).state.table
 
 -- a grant and its turn more
-next-grants : (w n : ℕ) (p q : Stand) (k : ℕ) → Grants w n p q k
+next-grants : (w : Wiring) (n : ℕ) (p q : Stand) (k : ℕ) → Grants w n p q k
     → entry_refusal n (after_grants w n p k).state (entry_of kind_turn (granted_at n (after_grants w n p k))) ≡ 0 → Grants w n p q (suc k)
 unfolding after_grants grant_turn
 next-grants w n p q k x taken =
@@ -100,7 +101,7 @@ next-grants w n p q k x taken =
     same = granted-same n before.table other.table x.both.tables (after_grants w n p k).last ∙ ap (granted n other.table) x.last
 
 -- a drive that is not refused
-module _ (w n : ℕ) (s r : State) (a : Alike w n s r) (last : ℕ) (z : grant_refusal w n s.table last ≡ 0) where
+module _ (w : Wiring) (n : ℕ) (s r : State) (a : Alike w n s r) (last : ℕ) (z : grant_refusal w n s.table last ≡ 0) where
   abbrev p : Stand
   p = stand_at s last
 
@@ -160,7 +161,7 @@ module _ (w n : ℕ) (s r : State) (a : Alike w n s r) (last : ℕ) (z : grant_r
       let z' : grant_refusal w n r.table last ≡ 0 = sym (ap number_of_result (grant-checked w n s r a w n last (λ _. refl))) ∙ z in
       rw (← drive-made w n s last made z stop, ← drive-made w n r last made z' other-stop) made-same
 
-refused : (w n : ℕ) (s r : State) → Alike w n s r → (number last : ℕ)
+refused : (w : Wiring) (n : ℕ) (s r : State) → Alike w n s r → (number last : ℕ)
     → SameDrive w n s r (drive_outcome number s last 0) (drive_outcome number r last 0)
 refused w n s r a number last = record { answer = rw (a.rounds, a.tests); left = stay-still w n s r a }
 
@@ -180,7 +181,7 @@ drive-of-alike w n s r a v m last on =
     turned-away t = rw (← grant-checked w n s r a v m last on, t) (refused w n s r a (grant_refusal v m s.table last) last)
 
 -- one of a mixed list
-one-same : (w n : ℕ) (s r : State) → Alike w n s r → (x : RunOrDrive) → IsOn w (wiring_given x)
+one-same : (w : Wiring) (n : ℕ) (s r : State) → Alike w n s r → (x : RunOrDrive) → IsOn w (wiring_given x)
     → (answer_of s x ≡ answer_of r x) × StayAlike w n s r (after_one s x) (after_one r x)
 one-same w n s r a (a_run c) on = let f = run-of-alike w n s r a c.wiring c.size c.schedule c.sheet on in (f.answer, f.left)
 one-same w n s r a (a_drive v m last) on = let f = drive-of-alike w n s r a v m last on in (f.answer, f.left)

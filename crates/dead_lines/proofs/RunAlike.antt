@@ -15,8 +15,9 @@ use Rattle.lists.proofs.RefusalLaws.{and_same}
 use Rattle.std.proofs.lemmas.List.Elements.{All-head, All-tail}
 use Rattle.table.specs.Wiring.{wiring_check}
 use Rattle.table.specs.Table.{table_length, finished_column, live}
-use Rattle.table.specs.Rules.{round_over, shape_check, table_check_on, numbered_table_check, numbered_table_refusal}
+use Rattle.table.specs.Rules.{round_over, shape_check, table_check, table_refusal}
 use Rattle.table.proofs.Accepting.{accepted, shape_ok}
+use Rattle.table.specs.declared.wiring.Wiring.{Wiring}
 use Rattle.plant.specs.Round.{after_round}
 use Rattle.plant.specs.Entry.{Entry, State, entry_check, entry_refusal, acted, after, sheet_line}
 use Rattle.plant.specs.Run.{RunResult, entries, write_line, go_on, start_check, start_refusal, run}
@@ -50,7 +51,7 @@ module _ (n : ℕ) (s r : State) (b : Both n s r) (e : Entry) where
   refusal-same = ap number_of_result check-same
 
   -- one that is taken
-  module _ (w : ℕ) (z : entry_refusal n s e ≡ 0) where
+  module _ (w : Wiring) (z : entry_refusal n s e ≡ 0) where
     takes : Takes n s e
     takes = entry-facts n s e z
 
@@ -103,7 +104,7 @@ further : {n : ℕ} {s r s' r' : State} {a b : RunResult} → Step n s.table r.t
 further one rest =
     record { number = rest.number; taken = rest.taken; sheet = rest.sheet; rounds = rest.rounds; tests = rest.tests; step = then one rest.step }
 
-run-on : (w n k : ℕ) (s r : State) (sheet : List ℕ) (es : List Entry) → Both n s r → SameFrom n s r (go_on w n k s sheet es) (go_on w n k r sheet es)
+run-on : (w : Wiring) (n k : ℕ) (s r : State) (sheet : List ℕ) (es : List Entry) → Both n s r → SameFrom n s r (go_on w n k s sheet es) (go_on w n k r sheet es)
 unfolding go_on
 run-on w n k s r sheet [] b = stopped n s r b 0 k sheet
 run-on w n k s r sheet (e ∷ es) b =
@@ -115,7 +116,7 @@ run-on w n k s r sheet (e ∷ es) b =
     (λ t. rw (← refusal-same n s r b e, t) (stopped n s r b (entry_refusal n s e) k sheet))
 
 -- alike tables and tallies
-module _ (w n : ℕ) (s r : State) (a : Alike w n s r) where
+module _ (w : Wiring) (n : ℕ) (s r : State) (a : Alike w n s r) where
   pub long-alike : length s.table ≡ table_length n
   long-alike = (accepted w n s.table a.valid).long
 
@@ -139,8 +140,8 @@ module _ (w n : ℕ) (s r : State) (a : Alike w n s r) where
   size-is m fits = size-unique m n (fits ∙ alike-both.tables.other_long)
 
   -- a call on this wiring, of any size, finds the same of refusals 24 and 1 to 4: one of another size by the length alone
-  pub tables-checked : (v m : ℕ) → IsOn w v → numbered_table_check v m s.table ≡ numbered_table_check v m r.table
-  unfolding table_check_on
+  pub tables-checked : (v m : ℕ) → IsOn w v → table_check v m s.table ≡ table_check v m r.table
+  unfolding table_check
   tables-checked v m on =
       and_same (wiring_check v) _ _
       (λ known.
@@ -168,8 +169,8 @@ module _ (w n : ℕ) (s r : State) (a : Alike w n s r) where
       (stopped n s r alike-both (start_refusal v m s.table (length schedule) (length sheet)) 0 sheet))
 
 -- a run of any size keeps the rules of size n
-still-valid : (w n : ℕ) (s : State) → numbered_table_refusal w n s.table ≡ 0 → (v m : ℕ) (schedule sheet : List ℕ) → IsOn w v
-    → numbered_table_refusal w n (run v m s schedule sheet).state.table ≡ 0
+still-valid : (w : Wiring) (n : ℕ) (s : State) → table_refusal w n s.table ≡ 0 → (v m : ℕ) (schedule sheet : List ℕ) → IsOn w v
+    → table_refusal w n (run v m s schedule sheet).state.table ≡ 0
 unfolding run
 still-valid w n s z v m schedule sheet on =
     by_bool (eqb (start_refusal v m s.table (length schedule) (length sheet)) 0)
@@ -180,8 +181,8 @@ still-valid w n s z v m schedule sheet on =
     (λ t. rw t z)
 
 -- what stays alike
-pub stays : (w n : ℕ) (s r s' r' : State) → Both n s r → Step n s.table r.table s'.table r'.table → numbered_table_refusal w n s'.table ≡ 0
-    → numbered_table_refusal w n r'.table ≡ 0 → s'.rounds ≡ r'.rounds → s'.tests ≡ r'.tests → StayAlike w n s r s' r'
+pub stays : (w : Wiring) (n : ℕ) (s r s' r' : State) → Both n s r → Step n s.table r.table s'.table r'.table → table_refusal w n s'.table ≡ 0
+    → table_refusal w n r'.table ≡ 0 → s'.rounds ≡ r'.rounds → s'.tests ≡ r'.tests → StayAlike w n s r s' r'
 stays w n s r s' r' b step z z' rounds tests =
     let tw = twins-after b.tables step in
     record {
@@ -189,10 +190,10 @@ stays w n s r s' r' b step z z' rounds tests =
       lines = line-after step;
     }
 
-pub stay-still : (w n : ℕ) (s r : State) → Alike w n s r → StayAlike w n s r s r
+pub stay-still : (w : Wiring) (n : ℕ) (s r : State) → Alike w n s r → StayAlike w n s r s r
 stay-still w n s r a = record { alike = a; lines = λ i h line. line }
 
-pub stay-then : {w n : ℕ} {s r s' r' s'' r'' : State} → StayAlike w n s r s' r' → StayAlike w n s' r' s'' r'' → StayAlike w n s r s'' r''
+pub stay-then : {w : Wiring} {n : ℕ} {s r s' r' s'' r'' : State} → StayAlike w n s r s' r' → StayAlike w n s' r' s'' r'' → StayAlike w n s r s'' r''
 stay-then one two = record { alike = two.alike; lines = λ i h line. two.lines i h (one.lines i h line) }
 
 -- a run, an end in itself

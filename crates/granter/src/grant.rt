@@ -1,7 +1,6 @@
 // The grant: the next station, going round, that is live and unfinished.
 ghost use Rattle.std.specs.Prelude.{◌≡◌, ◌≤◌, ◌<◌, true, false, IfSome, IfNone, IfOk};
 ghost use Rattle.std.specs.Result.{result_map_both};
-ghost use Rattle.table.specs.Wiring.{wiring_number};
 ghost use Rattle.table.specs.Rules.{some_live, round_over};
 ghost use Rattle.granter.specs.Grant.{first_from, following, granted, last_number, last_check, grant_check, grant_answer};
 
@@ -31,7 +30,7 @@ pub(crate) fn check_grant(
     last: usize,
 ) -> Result<(Wiring, Table<'_>, Option<Station>), Refusal>
     ensures check { result_map_both (λ s. tt) (λ r. r) result ≡ grant_check wiring n table.now last }
-    ensures same_wiring { IfOk result (λ s. wiring_number s.0 ≡ wiring) }
+    ensures same_wiring { IfOk result (λ s. s.0 ≡ wiring) }
     ensures same_size { IfOk result (λ s. s.1.n ≡ n) }
     ensures same_bytes { IfOk result (λ s. s.1.bytes.now ≡ table.now) }
     ensures same_last { IfOk result (λ s. last_number s.2 ≡ last) }

@@ -19,11 +19,13 @@ use Rattle.slots.proofs.Counts.{sum-le}
 use Rattle.table.specs.Table.{head, cell, status_column, next_column, finished_column, tests_column, status_crashed}
 use Rattle.table.specs.Table.{next_distance, finished, tests_made, suspects, live}
 use Rattle.table.specs.Sizes.{is_size}
-use Rattle.table.specs.Wiring.{wiring_cube, wiring_ring, wiring_check}
+use Rattle.table.specs.Wiring.{wiring_check}
 use Rattle.table.specs.Rules.{round_over}
 use Rattle.table.specs.Properties.{live_count}
 use Rattle.table.proofs.Accepting.{Accepted}
 use Rattle.table.proofs.CellLaws.{cell_other, TurnCounts}
+use Rattle.table.specs.declared.wiring.Wiring.{Wiring}
+use Rattle.table.specs.declared.wiring.Wiring.TheVariants.{Cube, Ring}
 use Rattle.plant.specs.Turn.{makes_test, crash}
 use Rattle.plant.specs.Round.{reset_lines, after_round}
 use Rattle.plant.specs.Entry.{Entry, State, is_crash, entry_refusal, acted, after}
@@ -53,7 +55,7 @@ abbrev Clean : ℕ → List ℕ → Type 0
 Clean n t = (i j : ℕ) → i < n → j < n → live n t i ≡ true → live n t j ≡ true → suspects n t i j ≡ 0
 
 -- a taken entry
-module _ (w n : ℕ) (s : State) (e : Entry) (ok : Accepted w n s.table) (z : entry_refusal n s e ≡ 0) where
+module _ (w : Wiring) (n : ℕ) (s : State) (e : Entry) (ok : Accepted w n s.table) (z : entry_refusal n s e ≡ 0) where
   abbrev t' : List ℕ
   t' = (after w n s e).table
 
@@ -92,12 +94,12 @@ module _ (w n : ℕ) (s : State) (e : Entry) (ok : Accepted w n s.table) (z : en
       let turn = taken-turn w n (live n s.table) (company-of n s.table two) s e ok z (plain-at w n s.table ok clean) c in_time in
       rows-stay i j hj ∙ turn.kept.plain.accurate i j hi hj (was-live w n s e ok z i hi li) (was-live w n s e ok z j hj lj)
 
-fewer-after : {w n : ℕ} {s s' : State} {xs : List Taken} → WiredChain w n s xs s' → live_count n s'.table ≤ live_count n s.table
+fewer-after : {w : Wiring} {n : ℕ} {s s' : State} {xs : List Taken} → WiredChain w n s xs s' → live_count n s'.table ≤ live_count n s.table
 fewer-after ends = omega arith
 fewer-after {w} {n} {s} (next e ok z chain) = omega (arith, fewer-live w n s e ok z, fewer-after chain)
 
 -- B bounds the tests of a round
-module _ (w n : ℕ) (B : TestsBound w n) where
+module _ (w : Wiring) (n : ℕ) (B : TestsBound w n) where
   -- what holds at every moment, with crashes but without late replies
   record Steady (t : List ℕ) : Type 0 where
     pub clean : Clean n t
@@ -189,7 +191,7 @@ module _ (w n : ℕ) (B : TestsBound w n) where
         let still = B.turns L (acted w n s.table e) s e p turn fits in
         (still, omega (arith, made-more s e (acted w n s.table e) turn, made-most (acted w n s.table e) turn.kept.plain still))
 
-    known-since : wiring_check w ≡ Ok tt → is_size n ≡ true → {s s' : State} {xs : List Taken} → WiredChain w n s xs s' → Plain w n L s.table
+    known-since : is_size n ≡ true → {s s' : State} {xs : List Taken} → WiredChain w n s xs s' → Plain w n L s.table
         → B.Fits L s.table → Quiet xs → turns_from_crash w n T ≤ length xs → AllKnow n T s'.table
     known-since wired size chain p fits quiet far =
         let f = facts w n T wired size two in
@@ -205,7 +207,7 @@ all_parts q (x ∷ xs) ys a =
     (rw (b.0, r.0), r.1)
 
 -- on a wiring
-module _ (w n : ℕ) (B : TestsBound w n) (s : State) (calls : List Call) (before : List Taken) (x : Taken) (rest : List Taken)
+module _ (w : Wiring) (n : ℕ) (B : TestsBound w n) (s : State) (calls : List Call) (before : List Taken) (x : Taken) (rest : List Taken)
     (given : LastCrash w n s calls before x rest) (far : turns_from_crash w n (table_after x) ≤ length rest) where
   part : Parted n s before x rest (after_runs s calls)
   part = parted (chain-all n s calls given.long) before x rest given.parts
@@ -270,10 +272,10 @@ module _ (w n : ℕ) (B : TestsBound w n) (s : State) (calls : List Call) (befor
 pub known-from-crash : KnownFromCrash
 known-from-crash w n s calls before x rest given far =
     on-each
-    (λ (w : ℕ). LastCrash w n s calls before x rest → turns_from_crash w n (table_after x) ≤ length rest
+    (λ (w : Wiring). LastCrash w n s calls before x rest → turns_from_crash w n (table_after x) ≤ length rest
     → AllKnow n (table_after x) (after_runs s calls).table)
-    w given.wiring (from-crash wiring_cube n (cube-tests n given.size) s calls before x rest)
-    (from-crash wiring_ring n (on-the-ring n given.size) s calls before x rest) given far
+    w given.wiring (from-crash Cube n (cube-tests n given.size) s calls before x rest)
+    (from-crash Ring n (on-the-ring n given.size) s calls before x rest) given far
 
 pub mixed-known-from-crash : MixedKnownFromCrash
 mixed-known-from-crash w n s xs before x rest given far =

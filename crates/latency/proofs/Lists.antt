@@ -8,6 +8,7 @@ use native.Mathlib.Omega.{arith}
 use lib.ListN.{length}
 use Rattle.table.specs.Table.{live}
 use Rattle.table.proofs.Accepting.{Accepted, accepted}
+use Rattle.table.specs.declared.wiring.Wiring.{Wiring}
 use Rattle.plant.specs.Entry.{State}
 use Rattle.detection.specs.Runs.{Call, after_runs, taken_all}
 use Rattle.detection.specs.Rounds.{count_taken, cut}
@@ -22,7 +23,7 @@ use Rattle.latency.specs.Crash.{KnownFromAnyMoment}
 use Rattle.latency.proofs.Known.{Quiet, Facts, facts, known-from-now}
 
 -- from the start of a round on
-module _ (w n : ℕ) (s : State) (calls : List Call) (given : DetectionPremises w n s calls) where
+module _ (w : Wiring) (n : ℕ) (s : State) (calls : List Call) (given : DetectionPremises w n s calls) where
   chain : WiredChain w n s (taken_all s calls) (after_runs s calls)
   chain = on-wiring (chain-all n s calls given.long) given.one_wiring
 

@@ -11,7 +11,6 @@ pub mod report;
 ghost use Rattle.std.specs.Prelude.{◌≡◌, ◌*◌, ◌≤◌, true, length};
 ghost use Rattle.table.specs.Sizes.{is_size};
 ghost use Rattle.table.specs.Table.{table_length};
-ghost use Rattle.table.specs.Wiring.{wiring_number};
 ghost use Rattle.mender.specs.Mended.{mended};
 ghost use Rattle.mender.specs.Report.{mends, report_of, mend, table_after, report_after};
 
@@ -41,9 +40,9 @@ fn mend_checked(wiring: Wiring, n: u8, table: &mut [u8], report: &mut [u8]) -> u
     requires sized { is_size n ≡ true }
     requires fits { length table.old ≡ table_length n }
     requires room { 4 * table_length n ≤ length report.old }
-    ensures number_of_changes { result ≡ length (mends (wiring_number wiring) n table.old) }
-    ensures mended_table { table.new ≡ mended (wiring_number wiring) n table.old }
-    ensures listed_changes { let changes = mends (wiring_number wiring) n table.old in
+    ensures number_of_changes { result ≡ length (mends wiring n table.old) }
+    ensures mended_table { table.new ≡ mended wiring n table.old }
+    ensures listed_changes { let changes = mends wiring n table.old in
         report.new ≡ report_of changes (length report.old) }
 {
     let over = lines::is_over(wiring, &Table { n, bytes: table });

@@ -2,7 +2,6 @@
 ghost use Rattle.std.specs.Prelude.{◌≡◌, length, IfOk};
 ghost use Rattle.std.specs.Result.{result_map_both};
 ghost use Rattle.table.specs.Lent.{IsSameLoan};
-ghost use Rattle.table.specs.Wiring.{wiring_number};
 ghost use Rattle.plant.specs.Entry.{state_with};
 ghost use Rattle.plant.specs.Run.{entries, go_on, start_check, start_refusal, outcome_with, run};
 
@@ -52,7 +51,7 @@ fn check_start(
 ) -> Result<(Wiring, Table<'_>), Refusal>
     ensures check { result_map_both (λ s. tt) (λ r. r) result
         ≡ start_check wiring n table.now schedule sheet }
-    ensures same_wiring { IfOk result (λ s. wiring_number s.0 ≡ wiring) }
+    ensures same_wiring { IfOk result (λ s. s.0 ≡ wiring) }
     ensures same_size { IfOk result (λ s. s.1.n ≡ n) }
     ensures same_bytes { IfOk result (λ s. s.1.bytes.now ≡ table.now) }
 {
@@ -74,10 +73,10 @@ pub(crate) fn go_on(
     schedule: &[u8],
     sheet: &mut [u8],
 ) -> Ran
-    requires { let w = wiring_number wiring in
+    requires { let w = wiring in
         start_refusal w table.old.n table.old.bytes.now (length schedule.now) (length sheet.old) ≡ 0 }
     ensures same_loan { IsSameLoan table.old table.new }
-    ensures run { let w = wiring_number wiring in
+    ensures run { let w = wiring in
         let s = state_with table.old.bytes.now tally in
         outcome_with result table.new.bytes.now sheet.new
         ≡ go_on w table.old.n 0 s sheet.old (entries schedule.now) }

@@ -11,6 +11,7 @@ use Rattle.lists.specs.declared.refusal.Refusal.{Refusal}
 use Rattle.lists.specs.Refusal.{Check, ◌and◌, number_of, number_of_result, unless_refused, refusal_words, refusal_with}
 use Rattle.table.specs.Rules.{length_check}
 use Rattle.table.specs.Status.{status_of, status_words}
+use Rattle.table.specs.declared.wiring.Wiring.{Wiring}
 use Rattle.station.specs.Outcome.{outcome_with, outcome_words}
 use Rattle.slots.specs.Board.{slot_answer}
 use Rattle.slots.specs.declared.board.Slot.{Slot}
@@ -34,7 +35,7 @@ abbrev pub version_number : ℕ → ℕ → ℕ → ℕ
 version_number major minor patch = 10000 * major + 100 * minor + patch
 
 -- Row: the part of the table with this start and so many bytes is the row, and has none where it is refused
-abbrev pub IsRowAt : ℕ → ℕ → List ℕ → ℕ → ℕ → ℕ → Type 0
+abbrev pub IsRowAt : Wiring → ℕ → List ℕ → ℕ → ℕ → ℕ → Type 0
 IsRowAt w n t i start bytes = slice_range t start (start + bytes) ≡ row_part w n t i
 
 -- Rule Exact calls, for C. Run: the outcome by its parts: the number, the entries taken, table, rounds and tests, and the sheet
@@ -132,7 +133,7 @@ abbrev pub wait_out : ℕ → ℕ → ℕ → ℕ → Wait
 wait_out rounds turns until from =
     record { rounds = rounds; turns_per_round = turns; turns_until_known = until; turns_from_crash = from }
 
-abbrev pub wait_figures : ℕ → ℕ → List ℕ → Wait
+abbrev pub wait_figures : Wiring → ℕ → List ℕ → Wait
 wait_figures w n t = result_unwrap_or (wait_answer w n t) (wait_out 0 0 0 0)
 
 -- a buffer for words has just so many bytes, of which the last is 0 in every answer

@@ -5,7 +5,7 @@
 ghost use Rattle.std.specs.Prelude.{◌≡◌, min, ◌++◌, length, ◌<◌};
 ghost use Rattle.std.specs.Result.{result_unwrap_or};
 ghost use Rattle.lists.specs.Refusal.{number_of_result};
-ghost use Rattle.table.specs.Rules.{numbered_shape_check};
+ghost use Rattle.table.specs.Rules.{shape_check};
 ghost use Rattle.table.specs.Fresh.{fresh_after};
 ghost use Rattle.station.specs.Calls.{group_refusal, group_after, row_refusal, row_part, row_offset, assignment_refusal, assignment_after};
 ghost use Rattle.station.specs.Calls.{assignment_count};
@@ -75,7 +75,7 @@ pub extern "C" fn vcube_version() -> u32
 // Fresh table: every line live, next distance 1, byte 4 255, all else 0.
 #[unsafe(no_mangle)]
 pub extern "C" fn vcube_fresh_table(wiring: usize, n: usize, table: &mut [u8]) -> u8
-    ensures number { result ≡ number_of_result (numbered_shape_check wiring n (length table.old)) }
+    ensures number { result ≡ number_of_result (shape_check n (length table.old)) }
     ensures table_after { table.new ≡ fresh_after wiring n table.old }
 {
     number_of(fresh::fresh_table(wiring, n, table))

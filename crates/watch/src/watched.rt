@@ -2,7 +2,6 @@
 ghost use Rattle.std.specs.Prelude.{◌≡◌, ℕ, List, ◌++◌, Ok, true, false, ◌*◌, ◌≤◌, length, IfErr};
 ghost use Rattle.table.specs.Sizes.{is_size};
 ghost use Rattle.table.specs.Table.{greatest_table, table_length};
-ghost use Rattle.table.specs.Wiring.{wiring_number};
 ghost use Rattle.table.specs.Fresh.{fresh_after};
 ghost use Rattle.plant.specs.Entry.{state_of};
 ghost use Rattle.plant.specs.Run.{outcome_with, run};
@@ -66,7 +65,7 @@ fn run_fresh(
     table: &mut [u8],
     sheet: &mut [u8],
 ) -> Ran
-    ensures { let w = wiring_number wiring in
+    ensures { let w = wiring in
         let start = state_of (fresh_after w size table.old) 0 0 in
         outcome_with result table.new sheet.new ≡ run w size start schedule.now sheet.old }
 {
@@ -77,7 +76,7 @@ fn run_fresh(
 
 // The number of a wiring.
 fn number_of(wiring: Wiring) -> usize
-    ensures { result ≡ wiring_number wiring }
+    ensures { result ≡ wiring }
 {
     wiring as usize
 }

@@ -11,6 +11,7 @@ use Rattle.table.specs.Sizes.{is_size}
 use Rattle.table.specs.Wiring.{wiring_check}
 use Rattle.table.specs.Table.{table_length}
 use Rattle.table.specs.Properties.{at_start, live_count, none_suspected}
+use Rattle.table.specs.declared.wiring.Wiring.{Wiring}
 use Rattle.plant.specs.Entry.{State}
 use Rattle.detection.specs.Runs.{Call, taken_all, crashes, is_late, is_on}
 use Rattle.detection.specs.Rounds.{all_taken}
@@ -19,7 +20,7 @@ use Rattle.witness.specs.Witness.{turns_of, boards, calls, FourBoards, ThreeBoar
 use Rattle.witness.proofs.Computing.{whole_list}
 
 -- the detection conditions, each computed
-met : {w n : ℕ} {s : State} {calls : List Call} → wiring_check w ≡ Ok tt → is_size n ≡ true → length s.table ≡ table_length n
+met : {w : Wiring} {n : ℕ} {s : State} {calls : List Call} → is_size n ≡ true → length s.table ≡ table_length n
     → at_start n s.table ≡ true → 2 ≤ live_count n s.table → none_suspected n s.table ≡ true → all_taken (is_on w) (taken_all s calls) ≡ true
     → all_taken (λ x. not (crashes x)) (taken_all s calls) ≡ true → all_taken (λ x. not (is_late x)) (taken_all s calls) ≡ true
     → DetectionPremises w n s calls
