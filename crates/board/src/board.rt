@@ -74,8 +74,7 @@ impl Board {
     #[tactic(auto, unfolding(crate::specs::Board::next_of))]
     fn next_test(self, line: &[u8]) -> Distance
         requires { length line.now ≡ stride self.wired.n }
-        ensures { let w = self.wired.wiring in
-            result.0 ≡ next_of w self.wired.n self.own.0 line.now }
+        ensures { result.0 ≡ next_of self.wired.wiring self.wired.n self.own.0 line.now }
     {
         self.wired
             .next_due(self.row(line), self.own, Distance(line[NEXT]))
@@ -100,12 +99,10 @@ impl Board {
     pub(crate) fn replied(self, line: &mut [u8], packed: &[u8]) -> Outcome
         requires fits { length line.old ≡ stride self.wired.n }
         requires tests_fit { slice_index line.old tests_column < 255 }
-        ensures outcome_number { let w = self.wired.wiring in
-            let reply = row_in w self.wired.n self.own.0 line.old packed.now in
-            outcome_byte result ≡ outcome w self.wired.n self.own.0 line.old reply }
-        ensures turn_made { let w = self.wired.wiring in
-            let reply = row_in w self.wired.n self.own.0 line.old packed.now in
-            line.new ≡ turn_of w self.wired.n self.own.0 line.old reply }
+        ensures outcome_number { let reply = row_in self.wired.wiring self.wired.n self.own.0 line.old packed.now in
+            outcome_byte result ≡ outcome self.wired.wiring self.wired.n self.own.0 line.old reply }
+        ensures turn_made { let reply = row_in self.wired.wiring self.wired.n self.own.0 line.old packed.now in
+            line.new ≡ turn_of self.wired.wiring self.wired.n self.own.0 line.old reply }
     {
         let m = self.next_test(line);
         if self.wired.end <= m.0 {
@@ -128,10 +125,10 @@ impl Board {
     pub(crate) fn not_replied(self, line: &mut [u8]) -> Outcome
         requires fits { length line.old ≡ stride self.wired.n }
         requires tests_fit { slice_index line.old tests_column < 255 }
-        ensures outcome_number { let w = self.wired.wiring in
-            outcome_byte result ≡ outcome w self.wired.n self.own.0 line.old None }
-        ensures turn_made { let w = self.wired.wiring in
-            line.new ≡ turn_of w self.wired.n self.own.0 line.old None }
+        ensures outcome_number { outcome_byte result
+            ≡ outcome self.wired.wiring self.wired.n self.own.0 line.old None }
+        ensures turn_made { line.new
+            ≡ turn_of self.wired.wiring self.wired.n self.own.0 line.old None }
     {
         let m = self.next_test(line);
         if self.wired.end <= m.0 {
@@ -183,8 +180,8 @@ impl Board {
         requires fits { length line.old ≡ stride self.wired.n }
         requires tests_fit { slice_index line.old tests_column < 255 }
         requires distance_fits { m.0 < 255 }
-        ensures { let w = self.wired.wiring in
-            line.new ≡ counted w self.wired.n line.old m.0 (outcome_byte outcome) }
+        ensures { line.new
+            ≡ counted self.wired.wiring self.wired.n line.old m.0 (outcome_byte outcome) }
     {
         let tests = line[TESTS];
         line[NEXT] = self.wired.next_after(m, outcome);

@@ -48,8 +48,7 @@ impl Board {
     #[tactic(auto, using(crate::proofs::CallLaws::place_ok, crate::proofs::CallLaws::rules_tests), unfolding(crate::specs::Calls::line_check))]
     pub(crate) fn check_line(self, line: &[u8]) -> Result<(), Refusal>
         requires { length line.now ≡ stride self.wired.n }
-        ensures check { let w = self.wired.wiring in
-            result ≡ line_check w self.wired.n self.own.0 line.now }
+        ensures check { result ≡ line_check self.wired.wiring self.wired.n self.own.0 line.now }
         ensures tests_fit { IfOk result (λ u. slice_index line.now tests_column < 255) }
     {
         if !self.keeps_line_rules(line) {
@@ -62,8 +61,7 @@ impl Board {
     #[tactic(auto, unfolding(crate::specs::Calls::live_check))]
     pub(crate) fn check_live(self, line: &[u8]) -> Result<(), Refusal>
         requires { length line.now ≡ stride self.wired.n }
-        ensures check { let w = self.wired.wiring in
-            result ≡ live_check w self.wired.n self.own.0 line.now }
+        ensures check { result ≡ live_check self.wired.wiring self.wired.n self.own.0 line.now }
         ensures tests_fit { IfOk result (λ u. slice_index line.now tests_column < 255) }
     {
         self.check_line(line)?;
@@ -77,8 +75,7 @@ impl Board {
     #[tactic(auto, unfolding(crate::specs::Calls::turn_check))]
     pub(crate) fn check_turn(self, line: &[u8]) -> Result<(), Refusal>
         requires { length line.now ≡ stride self.wired.n }
-        ensures check { let w = self.wired.wiring in
-            result ≡ turn_check w self.wired.n self.own.0 line.now }
+        ensures check { result ≡ turn_check self.wired.wiring self.wired.n self.own.0 line.now }
         ensures tests_fit { IfOk result (λ u. slice_index line.now tests_column < 255) }
     {
         self.check_live(line)?;
@@ -92,8 +89,7 @@ impl Board {
     #[tactic(auto, unfolding(crate::specs::Calls::sent_check))]
     pub(crate) fn check_sent(self, line: &[u8], from: Station) -> Result<(), Refusal>
         requires { length line.now ≡ stride self.wired.n }
-        ensures { let w = self.wired.wiring in
-            result ≡ sent_check w self.wired.n self.own.0 line.now from.0 }
+        ensures { result ≡ sent_check self.wired.wiring self.wired.n self.own.0 line.now from.0 }
     {
         self.check_live(line)?;
         if self.wired.n <= from.0 {
@@ -119,8 +115,7 @@ impl Board {
     #[tactic(auto, using(table::proofs::StatusLaws::status_ok, table::proofs::StatusLaws::status_err, crate::proofs::RowLaws::row_rule_by_row), unfolding(crate::specs::Calls::line_rules Cube))]
     fn keeps_line_rules(self, line: &[u8]) -> bool
         requires { length line.now ≡ stride self.wired.n }
-        ensures { let w = self.wired.wiring in
-            result ≡ line_rules Cube w self.wired.n self.own.0 line.now }
+        ensures { result ≡ line_rules Cube self.wired.wiring self.wired.n self.own.0 line.now }
     {
         let Ok(status) = Status::try_from(line[board::STATUS]) else {
             return false;

@@ -37,8 +37,7 @@ pub fn drive(wiring: usize, n: usize, table: &mut [u8], tally: Tally, last: usiz
 
 // A drive that is not refused at its start: grant and turn until it stops.
 fn drive_on(wiring: Wiring, table: &mut TableMut, tally: Tally, last: Option<Station>) -> Driven
-    requires taken { let w = wiring in
-        grant_refusal w table.old.n table.old.bytes.now (last_number last) ≡ 0 }
+    requires taken { grant_refusal wiring table.old.n table.old.bytes.now (last_number last) ≡ 0 }
     requires last_below { IfSome last (λ i. i.0 < table.old.n) }
     ensures same_loan { IsSameLoan table.old table.new }
     ensures outcome { let s = state_with table.old.bytes.now tally in

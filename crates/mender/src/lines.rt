@@ -49,8 +49,7 @@ fn keeps_pass(wiring: Wiring, table: &Table, i: Station) -> bool
 // Bytes 0 to 5 of line i, mended.
 pub(crate) fn mended_head(wiring: Wiring, table: &Table, i: Station, over: bool) -> [u8; 6]
     requires { i.0 < table.now.n }
-    ensures { let w = wiring in
-        result ≡ list_of (mended_byte w table.now.n table.now.bytes.now over i.0) 6 }
+    ensures { result ≡ list_of (mended_byte wiring table.now.n table.now.bytes.now over i.0) 6 }
 {
     let status = mended_status(table.get(i, cells::STATUS));
     let by = mended_told_by(table.n, i, status, table.get(i, cells::TOLD_BY));

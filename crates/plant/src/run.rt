@@ -73,13 +73,12 @@ pub(crate) fn go_on(
     schedule: &[u8],
     sheet: &mut [u8],
 ) -> Ran
-    requires { let w = wiring in
-        start_refusal w table.old.n table.old.bytes.now (length schedule.now) (length sheet.old) ≡ 0 }
+    requires { start_refusal wiring table.old.n table.old.bytes.now (length schedule.now) (length sheet.old)
+        ≡ 0 }
     ensures same_loan { IsSameLoan table.old table.new }
-    ensures run { let w = wiring in
-        let s = state_with table.old.bytes.now tally in
+    ensures run { let s = state_with table.old.bytes.now tally in
         outcome_with result table.new.bytes.now sheet.new
-        ≡ go_on w table.old.n 0 s sheet.old (entries schedule.now) }
+        ≡ go_on wiring table.old.n 0 s sheet.old (entries schedule.now) }
 {
     let wired = Wired::new(wiring, table.n);
     // A table of its own, whose size and place stay in registers: behind the reference they are read again after each byte that is written.

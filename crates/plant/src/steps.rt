@@ -23,8 +23,7 @@ use table::{Distance, Station, cells};
 // that ends a round, until it is closed, the table breaks rule Round not over, and between two writes to a line not even the line rules hold.
 pub(crate) fn take_turn(wired: Wired, table: &mut TableMut, kind: Kind, i: Station) -> Outcome
     requires same_size { wired.n ≡ table.old.n }
-    requires table_obeys { let w = wired.wiring in
-        table_refusal w table.old.n table.old.bytes.now ≡ 0 }
+    requires table_obeys { table_refusal wired.wiring table.old.n table.old.bytes.now ≡ 0 }
     requires station_below { i.0 < table.old.n }
     ensures tested_station { tested_byte result
         ≡ turn_tested wired.wiring table.old.n table.old.bytes.now i.0 }
@@ -47,8 +46,7 @@ pub(crate) fn take_turn(wired: Wired, table: &mut TableMut, kind: Kind, i: Stati
 fn next_test(wired: Wired, table: &Table, i: Station) -> Distance
     requires same_size { wired.n ≡ table.now.n }
     requires station_below { i.0 < table.now.n }
-    ensures { let w = wired.wiring in
-        result.0 ≡ next_test w table.now.n table.now.bytes.now i.0 }
+    ensures { result.0 ≡ next_test wired.wiring table.now.n table.now.bytes.now i.0 }
 {
     wired.next_due(table.row(i), i, table.next_distance(i))
 }
@@ -69,13 +67,11 @@ fn finish_pass(wired: Wired, table: &mut TableMut, i: Station)
 // Station i tests the station at distance m: the test is counted by its outcome, takes effect, and i leaves if it is alone.
 fn make_test(wired: Wired, table: &mut TableMut, kind: Kind, i: Station, m: Distance) -> Outcome
     requires same_size { wired.n ≡ table.old.n }
-    requires table_obeys { let w = wired.wiring in
-        table_refusal w table.old.n table.old.bytes.now ≡ 0 }
+    requires table_obeys { table_refusal wired.wiring table.old.n table.old.bytes.now ≡ 0 }
     requires tester_below { i.0 < table.old.n }
     requires distance_above_0 { 0 < m.0 }
     requires distance_below { m.0 < wired.end }
-    requires tested_below { let w = wired.wiring in
-        wired_station w table.old.n i.0 m.0 < table.old.n }
+    requires tested_below { wired_station wired.wiring table.old.n i.0 m.0 < table.old.n }
     ensures tested_station { tested_byte result
         ≡ wired_station wired.wiring table.old.n i.0 m.0 }
     ensures outcome_number { outcome_byte result
@@ -100,9 +96,8 @@ fn count_test(wired: Wired, table: &mut TableMut, i: Station, m: Distance, outco
     requires distance_fits { m.0 < 255 }
     requires tests_fit { tests_made table.old.n table.old.bytes.now i.0 < 255 }
     ensures same_loan { IsSameLoan table.old table.new }
-    ensures test_counted { let w = wired.wiring in
-        table.new.bytes.now
-        ≡ count_test w table.old.n table.old.bytes.now i.0 m.0 (outcome_byte outcome) }
+    ensures test_counted { table.new.bytes.now
+        ≡ count_test wired.wiring table.old.n table.old.bytes.now i.0 m.0 (outcome_byte outcome) }
 {
     let tests = table.read().get(i, cells::TESTS);
     let next = wired.next_after(m, outcome);

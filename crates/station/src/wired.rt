@@ -69,8 +69,7 @@ impl Wired {
     // The distance of the next test of i, by its row and its next distance: the least one from there on at which it is to test; the end distance
     // where there is none.
     pub fn next_due(self, row: &[u8], i: Station, next: Distance) -> Distance
-        ensures { let w = self.wiring in
-            result.0 ≡ next_due w self.n row.now i.0 next.0 }
+        ensures { result.0 ≡ next_due self.wiring self.n row.now i.0 next.0 }
     {
         match self.wiring {
             Wiring::Cube => scan(row, i, self.end, next),
@@ -82,8 +81,7 @@ impl Wired {
     #[tactic(auto, unfolding(crate::specs::Wired::next_after))]
     pub fn next_after(self, m: Distance, outcome: Outcome) -> u8
         requires { m.0 < 255 }
-        ensures { let w = self.wiring in
-            result ≡ next_after w self.n m.0 (outcome_byte outcome) }
+        ensures { result ≡ next_after self.wiring self.n m.0 (outcome_byte outcome) }
     {
         match self.wiring {
             Wiring::Cube => m.0 + 1,

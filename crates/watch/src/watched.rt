@@ -65,9 +65,8 @@ fn run_fresh(
     table: &mut [u8],
     sheet: &mut [u8],
 ) -> Ran
-    ensures { let w = wiring in
-        let start = state_of (fresh_after w size table.old) 0 0 in
-        outcome_with result table.new sheet.new ≡ run w size start schedule.now sheet.old }
+    ensures { let start = state_of (fresh_after wiring size table.old) 0 0 in
+        outcome_with result table.new sheet.new ≡ run wiring size start schedule.now sheet.old }
 {
     let number = number_of(wiring);
     let _ = fresh::fresh_table(number, size, table);
