@@ -102,7 +102,6 @@ accepted-kept w n s e a z = pick (round_over n t) refl
     make : (u : List ℕ) → Lines w n u → (some_live n u && live_finished n u) ≡ false → Accepted w n u
     make u l open-still =
         record {
-          wired = a.wired;
           size = a.size;
           long = l.0;
           lines = every-all (line_rules w n u) n (λ i h. line-holds w n u i (l.1 i h));

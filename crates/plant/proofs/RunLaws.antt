@@ -27,7 +27,7 @@ use Rattle.plant.specs.Run.{RunResult, entries, write_line, go_on, start_check, 
 -- a table that obeys the rules gets no refusal
 pub accepted-number : (w : Wiring) (n : ℕ) (t : List ℕ) → Accepted w n t → table_refusal w n t ≡ 0
 unfolding table_check shape_check
-accepted-number w n t a = rw (a.wired, a.size, eq-eqb (length t) (table_length n) a.long, a.lines, a.unclosed)
+accepted-number w n t a = rw (a.size, eq-eqb (length t) (table_length n) a.long, a.lines, a.unclosed)
 
 -- the entries of a schedule
 entries-length : (s : List ℕ) → length (entries s) ≡ length s / 2

@@ -1,4 +1,4 @@
--- The run: refusals 24 and 1 to 6, then the entries in order; and two claims of it. w is the wiring's number.
+-- The run: refusals 1 to 6, then the entries in order; and two claims of it. w is the wiring.
 -- Assumes nothing.
 use Rattle.std.specs.Prelude.{◌≡◌, ℕ, suc, ◌*◌, ◌%◌, not, List, [], ◌∷◌, length, Option, Some, None, if◌then◌else◌, ◌==◌}
 use Rattle.std.proofs.lemmas.List.Edits.{sets}
@@ -45,7 +45,7 @@ go_on w n k s sheet (e ∷ es) =
     then go_on w n (suc k) (after w n s e) (write_line sheet k (sheet_line w n s e)) es
     else (record { number = entry_refusal n s e; taken = k; state = s; sheet = sheet })
 
--- refusals 24 and 1 to 6: then the schedule has an odd number of bytes; the run sheet is not twice as long as the schedule
+-- refusals 1 to 6: then the schedule has an odd number of bytes; the run sheet is not twice as long as the schedule
 unfoldable pub start_check : Wiring → ℕ → List ℕ → ℕ → ℕ → Check
 start_check w n t schedule_length sheet_length =
     table_check w n t
@@ -55,7 +55,7 @@ start_check w n t schedule_length sheet_length =
 abbrev pub start_refusal : Wiring → ℕ → List ℕ → ℕ → ℕ → ℕ
 start_refusal w n t schedule_length sheet_length = number_of_result (start_check w n t schedule_length sheet_length)
 
--- Rule Run call: the run of a schedule on a table and a tally with a lent run sheet, for all inputs. A run refused by 24 or 1 to 6 gives back the
+-- Rule Run call: the run of a schedule on a table and a tally with a lent run sheet, for all inputs. A run refused by 1 to 6 gives back the
 -- tally handed in
 unfoldable pub run : Wiring → ℕ → State → List ℕ → List ℕ → RunResult
 run w n s schedule sheet =
@@ -63,13 +63,13 @@ run w n s schedule sheet =
     then go_on w n 0 s sheet (entries schedule)
     else (record { number = start_refusal w n s.table (length schedule) (length sheet); taken = 0; state = s; sheet = sheet })
 
--- Rule Empty schedule: on a table that refusals 24 and 1 to 4 let through, with an empty run sheet, it is accepted and changes nothing
+-- Rule Empty schedule: on a table that refusals 1 to 4 let through, with an empty run sheet, it is accepted and changes nothing
 abbrev pub EmptyRun : Type 0
 EmptyRun =
     (w : Wiring) (n : ℕ) (s : State)
     → table_refusal w n s.table ≡ 0 → run w n s [] [] ≡ record { number = 0; taken = 0; state = s; sheet = [] }
 
--- Rule Rules kept: a table that refusals 24 and 1 to 4 let through is let through after every run on that wiring too, whatever the run answers
+-- Rule Rules kept: a table that refusals 1 to 4 let through is let through after every run on that wiring too, whatever the run answers
 abbrev pub RunKeepsRules : Type 0
 RunKeepsRules =
     (w : Wiring) (n : ℕ) (s : State) (schedule sheet : List ℕ)

@@ -1,4 +1,4 @@
--- A turn of one station and a crash, as functions of the table. w is the wiring's number, station i the entry's, kind its kind, j the tested
+-- A turn of one station and a crash, as functions of the table. w is the wiring, station i the entry's, kind its kind, j the tested
 -- station.
 -- Assumes nothing.
 use Rattle.std.specs.Prelude.{ℕ, Bool, ◌&&◌, List, if◌then◌else◌, ◌==◌, nat_lt}
