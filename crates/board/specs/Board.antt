@@ -1,4 +1,4 @@
--- What one board makes of its own line, and of what other boards send. w is the wiring's number, n the size of the plant, i the board's own number,
+-- What one board makes of its own line, and of what other boards send. w is the wiring, n the size of the plant, i the board's own number,
 -- l its line. The rules are those of a line of the table (station's Step and Rows).
 -- Assumes nothing.
 use Rattle.std.specs.Prelude.{ℕ, ◌+◌, Bool, ◌&&◌, List, [], set, Option, None, Some, if◌then◌else◌, ◌==◌, nat_lt, slice_index}

@@ -1,4 +1,4 @@
--- The calls of a board, by numbers and bytes that come from outside: what is refused, and what each leaves and answers. w is the wiring's number, n
+-- The calls of a board, by numbers and bytes that come from outside: what is refused, and what each leaves and answers. w is the wiring, n
 -- the size, i the board's own number, l the bytes of its line.
 -- Assumes nothing.
 use Rattle.std.specs.Prelude.{ℕ, Bool, not, ◌&&◌, List, length, Option, Some, None, Result, Ok, ◌==◌, slice_index}

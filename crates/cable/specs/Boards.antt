@@ -1,5 +1,5 @@
 -- n boards on one cable, each with its own line and nothing else: what an entry, and a list of entries, makes of their lines by the boards' calls
--- alone, and what these calls answer. w is the wiring's number, b k the line that board k holds, i the entry's board, kind its kind.
+-- alone, and what these calls answer. w is the wiring, b k the line that board k holds, i the entry's board, kind its kind.
 -- Assumes nothing.
 use Rattle.std.specs.Prelude.{◌≡◌, ℕ, suc, ◌/◌, ◌%◌, ◌<◌, Bool, false, not, ◌&&◌, ◌||◌, List, [], ◌∷◌, set, replicate, take, Option, None, Some}
 use Rattle.std.specs.Prelude.{true, Result, Ok, Err, if◌then◌else◌, ◌==◌, slice_index}
@@ -132,7 +132,7 @@ BoardsDoTheRun =
 unfoldable pub table_of : ℕ → Lines → List ℕ
 table_of n b = list_of (λ p. slice_index (b (p / stride n)) (p % stride n)) (table_length n)
 
--- Rule Boards make a table: where the calls of each board let its line through, and the round is not over, refusals 24 and 1 to 4 let this table
+-- Rule Boards make a table: where the calls of each board let its line through, and the round is not over, refusals 1 to 4 let this table
 -- through, and the boards hold what it has
 abbrev pub BoardsMakeATable : Type 0
 BoardsMakeATable =

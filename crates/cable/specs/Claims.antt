@@ -33,7 +33,7 @@ pub record SameTurn (w : Wiring) (n : ℕ) (t : List ℕ) (kind i : ℕ) : Type 
       → line n (turn w n t kind i) j ≡ received n j i (line n t j) (sent w n i (line n t i) (reply_to w n t kind i))
   pub others : (k : ℕ) → k < n → k ≢ i → k ≢ turn_tested w n t i → line n (turn w n t kind i) k ≡ line n t k
 
--- on every table that refusals 24 and 1 to 4 let through, for every station and every kind
+-- on every table that refusals 1 to 4 let through, for every station and every kind
 abbrev pub BoardsDoTheTurn : Type 0
 BoardsDoTheTurn = (w : Wiring) (n : ℕ) (t : List ℕ) (kind i : ℕ) → table_refusal w n t ≡ 0 → i < n → SameTurn w n t kind i
 

@@ -139,7 +139,7 @@ module _ (w : Wiring) (n : ℕ) (s r : State) (a : Alike w n s r) where
   pub size-is : (m : ℕ) → table_length m ≡ length r.table → m ≡ n
   size-is m fits = size-unique m n (fits ∙ alike-both.tables.other_long)
 
-  -- a call on this wiring, of any size, finds the same of refusals 24 and 1 to 4: one of another size by the length alone
+  -- a call on this wiring, of any size, finds the same of refusals 1 to 4: one of another size by the length alone
   pub tables-checked : (v m : ℕ) → IsOn w v → table_check v m s.table ≡ table_check v m r.table
   unfolding table_check
   tables-checked v m on =

@@ -17,7 +17,7 @@ use Rattle.detection.specs.Driven.{RunOrDrive, a_run, a_drive, after_one, after_
 abbrev pub SameLine : ℕ → List ℕ → List ℕ → ℕ → Type 0
 SameLine n t u i = (c : ℕ) → c < stride n → cell n t i c ≡ cell n u i c
 
--- Rule Dead lines, its conditions: refusals 24 and 1 to 4 let both tables through on the wiring w, and statuses, live lines and tally are equal
+-- Rule Dead lines, its conditions: refusals 1 to 4 let both tables through on the wiring w, and statuses, live lines and tally are equal
 pub record Alike (w : Wiring) (n : ℕ) (s r : State) : Type 0 where
   pub valid : table_refusal w n s.table ≡ 0
   pub other_valid : table_refusal w n r.table ≡ 0

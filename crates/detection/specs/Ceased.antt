@@ -31,7 +31,7 @@ pub record WhoTold (w : Wiring) (n : ℕ) (s : State) (e : Entry) : Type 0 where
   pub others : (k : ℕ) → k < n → (outcome_of w n s.table e ≡ outcome_told → k ≢ e.station)
       → (outcome_of w n s.table e ≡ outcome_tested_told → k ≢ tested_of w n s.table e) → told_by n (after w n s e).table k ≡ told_by n s.table k
 
--- Rule Teller named: at every entry that a run reaches, refusals 24 and 1 to 4 let its table through (`accepted-kept` of plant's
+-- Rule Teller named: at every entry that a run reaches, refusals 1 to 4 let its table through (`accepted-kept` of plant's
 -- proofs/RulesKept.antt)
 abbrev pub TellerIsNamed : Type 0
 TellerIsNamed = (w : Wiring) (n : ℕ) (s : State) (e : Entry) → table_refusal w n s.table ≡ 0 → entry_refusal n s e ≡ 0 → WhoTold w n s e

@@ -156,7 +156,7 @@ ring_latency n = n / 2
 abbrev pub worst_rounds : Wiring → ℕ → ℕ
 worst_rounds w n = if is_ring w then ring_latency n else worst_latency (dimension n)
 
--- a fresh table of any size passes refusals 24 and 1 to 4, on each wiring
+-- a fresh table of any size passes refusals 1 to 4, on each wiring
 abbrev pub FreshIsAccepted : Type 0
 FreshIsAccepted = (w : Wiring) (n : ℕ) → is_size n ≡ true → table_refusal w n (fresh_table n) ≡ 0
 

@@ -10,7 +10,7 @@ use Rattle.plant.specs.Turn.{replies, self_or_suspected}
 use Rattle.station.specs.Outcome.{outcome_exchanged, outcome_told, outcome_tested_told}
 use Rattle.plant.specs.Entry.{Entry, State, is_test, entry_refusal, after, tested_of, outcome_of}
 
--- a taken entry whose test has a reply. At every entry that a run reaches, refusals 24 and 1 to 4 let its table through (`accepted-kept` of
+-- a taken entry whose test has a reply. At every entry that a run reaches, refusals 1 to 4 let its table through (`accepted-kept` of
 -- plant's proofs/RulesKept.antt)
 pub record RepliedTest (w : Wiring) (n : ℕ) (s : State) (e : Entry) : Type 0 where
   pub shape : table_refusal w n s.table ≡ 0

@@ -1,4 +1,4 @@
--- The drive, which repeats a grant and its turn, for all inputs. w is the wiring's number.
+-- The drive, which repeats a grant and its turn, for all inputs. w is the wiring.
 -- Assumes nothing.
 use Rattle.std.specs.Prelude.{◌≡◌, ℕ, zero, suc, ◌*◌, ◌≤◌, ◌<◌, Bool, true, false, not, ◌||◌, List, if◌then◌else◌, ◌==◌}
 use Rattle.lists.specs.Search.{least}
@@ -72,7 +72,7 @@ drive_outcome_with d t = drive_outcome (stop_refusal d.stopped) (state_with t d.
 unfoldable pub outcome_after : Wiring → ℕ → Stand → ℕ → DriveResult
 outcome_after w n p k = drive_outcome (if ended_after w n p k then 0 else 7) (after_grants w n p k).state (after_grants w n p k).last k
 
--- Rule Drive call: the drive, for all inputs. Refused by 24, 1 to 4, 16 or 17 it gives back the tally and last number handed in, and 0 grants
+-- Rule Drive call: the drive, for all inputs. Refused by 1 to 4, 16 or 17 it gives back the tally and last number handed in, and 0 grants
 unfoldable pub drive : Wiring → ℕ → State → ℕ → DriveResult
 drive w n s last =
     unless (grant_refusal w n s.table last) (drive_outcome (grant_refusal w n s.table last) s last 0)

@@ -32,7 +32,7 @@ Grants w n tables last k i =
     (grant_refusal w n (tables k) (last_before w n tables last k) ≡ 0) × (grant_station w n (tables k) (last_before w n tables last k) ≡ i)
 
 -- Rule Fair grants: a station that is live and unfinished in n tables one behind the other, from table a on, is granted in one of these n, if
--- refusals 24 and 1 to 4 let them through: at most n − 1 grants to others come first. The tables before them may be any
+-- refusals 1 to 4 let them through: at most n − 1 grants to others come first. The tables before them may be any
 abbrev pub BoundedWaiting : Type 0
 BoundedWaiting =
     (w : Wiring) (n : ℕ) (tables : ℕ → List ℕ) (last a i : ℕ) → last_refusal n last ≡ 0

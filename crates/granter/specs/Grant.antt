@@ -49,7 +49,7 @@ last_refusal n last = number_of_result (last_check n last)
 abbrev pub live_check : ℕ → List ℕ → Check
 live_check n t = ensure (some_live n t) NoneLive
 
--- refusals of the grant, and of a drive at its start, on the wiring with number w: 24, 1 to 4, 16, 17
+-- refusals of the grant, and of a drive at its start, on the wiring w: 1 to 4, 16, 17
 unfoldable pub grant_check : Wiring → ℕ → List ℕ → ℕ → Check
 grant_check w n t last = table_check w n t and last_check n last and live_check n t
 

@@ -28,7 +28,7 @@ NoneRefused w n kinds p =
     (k : ℕ) → k < n * n → ((j : ℕ) → j ≤ k → over_after w n kinds p j ≡ false)
     → entry_refusal n (after_turns w n kinds p k).state (entry_of (kinds k) (granted_at n (after_turns w n kinds p k))) ≡ 0
 
--- Rule Enough grants: from every table that refusals 24 and 1 to 4 let through, in the middle of a round too, with somebody live and a last number
+-- Rule Enough grants: from every table that refusals 1 to 4 let through, in the middle of a round too, with somebody live and a last number
 -- that 16 lets through
 abbrev pub RoundEndsInSquare : Type 0
 RoundEndsInSquare =

@@ -13,15 +13,15 @@ use table::lent::{Table, TableMut};
 use table::wiring::Wiring;
 
 // Grants and turns of kind 1 until a round closes, nobody is left live, or a tally is full. A drive refused at its start changes no byte.
-pub fn drive(wiring: usize, n: usize, table: &mut [u8], tally: Tally, last: usize) -> Driven
+pub fn drive(wiring: Wiring, n: usize, table: &mut [u8], tally: Tally, last: usize) -> Driven
     ensures outcome { drive_outcome_with result table.new
         ≡ drive wiring n (state_with table.old tally) last }
     ensures stopped_if_taken { let start = state_with table.old tally in
         StoppedIfTaken wiring n start last result.grants }
 {
     // By hand and not by `?`: the answer is no Result, since a drive that is stopped keeps the turns that it made.
-    let (wiring, n, before) = match grant::check_grant(wiring, n, table, last) {
-        Ok((wiring, lent, before)) => (wiring, lent.n, before),
+    let (n, before) = match grant::check_grant(wiring, n, table, last) {
+        Ok((lent, before)) => (lent.n, before),
         Err(refusal) => {
             return Driven {
                 tally,

@@ -31,7 +31,7 @@ pub record InStep (w : Wiring) (n : ℕ) (s : State) (y : System) : Type 0 where
       → (let now = after_all w n s y.entries in
       entry_refusal n now (entry_by w n now.table d) ≡ 0 → outcome_of w n now.table (entry_by w n now.table d) ≡ d.outcome)
 
--- Rule Boards in step: so it is, whatever happens, from a table that refusals 24 and 1 to 4 let through
+-- Rule Boards in step: so it is, whatever happens, from a table that refusals 1 to 4 let through
 abbrev pub BoardsInStep : Type 0
 BoardsInStep =
     (w : Wiring) (n : ℕ) (s : State) (hs : List Happening) → table_refusal w n s.table ≡ 0

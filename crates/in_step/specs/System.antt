@@ -1,5 +1,5 @@
 -- Boards that put the bus master's numbered entries in force: what each of them keeps, what was sent, and what a board makes of its line by an entry.
--- w is the wiring's number, n the size of the plant, s the master's table and tally before its first entry.
+-- w is the wiring, n the size of the plant, s the master's table and tally before its first entry.
 -- Assumes nothing.
 use Rattle.std.specs.Prelude.{ℕ, suc, Bool, ◌&&◌, List, [], ◌∷◌, set, take, Option, None, Some, option_map, if◌then◌else◌, ◌==◌}
 use Rattle.table.specs.Table.{status_column, status_crashed}

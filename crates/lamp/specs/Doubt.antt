@@ -31,7 +31,7 @@ doubts n t = flat_map (doubts_of n t) (select (live n t) n)
 unfoldable pub first_doubt : ℕ → List ℕ → Option Doubt
 first_doubt n t = slice_get (doubts n t) 0
 
--- Rule Lamp call: the lamp's pair or none, on the wiring with number w; refusals 24 and 1 to 4
+-- Rule Lamp call: the lamp's pair or none, on the wiring w; refusals 1 to 4
 unfoldable pub doubt_lamp : Wiring → ℕ → List ℕ → Result (Option Doubt) Refusal
 doubt_lamp w n t = table_check w n t and Ok (first_doubt n t)
 
@@ -39,6 +39,6 @@ doubt_lamp w n t = table_check w n t and Ok (first_doubt n t)
 abbrev pub IsOut : Wiring → ℕ → List ℕ → Type 0
 IsOut w n t = doubt_lamp w n t ≡ Ok None
 
--- Rule Lamp is out: exactly if refusals 24 and 1 to 4 let the table through and no live station suspects a live one
+-- Rule Lamp is out: exactly if refusals 1 to 4 let the table through and no live station suspects a live one
 abbrev pub OutIfAccurate : Type 0
 OutIfAccurate = (w : Wiring) (n : ℕ) (t : List ℕ) → IsOut w n t ↔ ((table_check w n t ≡ Ok tt) × (none_suspected n t ≡ true))

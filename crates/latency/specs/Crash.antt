@@ -18,7 +18,7 @@ use Rattle.latency.specs.Bound.{turns_per_round, turns_until_known, grants_of}
 abbrev pub turns_from_now : Wiring → ℕ → List ℕ → ℕ
 turns_from_now w n t = n * n + turns_until_known w n t
 
--- the detection conditions at any moment of a round: a table that refusals 24 and 1 to 4 let through, two live boards at least, no live one
+-- the detection conditions at any moment of a round: a table that refusals 1 to 4 let through, two live boards at least, no live one
 -- suspecting a live one; any tally, any list of runs on that wiring, without crashes and late replies of live boards
 pub record AnyMoment (w : Wiring) (n : ℕ) (s : State) (calls : List Call) : Type 0 where
   pub accepted : table_refusal w n s.table ≡ 0

@@ -21,6 +21,6 @@ wait_on w n t =
       turns_from_crash = turns_from_crash w n t;
     }
 
--- Rule Wait call: these four on the wiring with number w; refusals 24 and 1 to 4
+-- Rule Wait call: these four on the wiring w; refusals 1 to 4
 unfoldable pub wait_answer : Wiring → ℕ → List ℕ → Result Wait Refusal
 wait_answer w n t = table_check w n t and Ok (wait_on w n t)

@@ -21,7 +21,7 @@ pub struct Wait {
     pub turns_from_crash: u32,
 }
 
-// The bounds for a table on the wiring with a number: refusals 24 and 1 to 4.
+// The bounds for a table on the wiring with a number: refusals 1 to 4.
 #[tactic(auto, unfolding(crate::specs::Wait::wait_answer))]
 pub fn wait_of(wiring: usize, n: usize, table: &[u8]) -> Result<Wait, Refusal>
     ensures { result ≡ wait_answer wiring n table.now }

@@ -152,9 +152,8 @@ mended-open w n t =
 
 pub mended-passes : (w : Wiring) (n : ℕ) (t : List ℕ) → is_size n ≡ true → table_check w n (mended w n t) ≡ Ok tt
 unfolding table_check shape_check
-mended-passes w n t wired size =
+mended-passes w n t size =
     rw (
-      wired,
       size,
       eq-eqb (length (mended w n t)) (table_length n) (mended-length w n t),
       every-all (line_rules w n (mended w n t)) n (line-right w n t),

@@ -3,7 +3,6 @@
 use Rattle.std.specs.Prelude.{ℕ, ◌*◌, ◌≡◌, ◌≢◌, ◌<◌, ◌≤◌, true, List, [], length, All, Ok, slice_index}
 use Rattle.table.specs.Sizes.{is_size}
 use Rattle.table.specs.Table.{table_length, status, suspects}
-use Rattle.table.specs.Wiring.{wiring_check}
 use Rattle.table.specs.Rules.{table_check}
 use Rattle.table.specs.declared.wiring.Wiring.{Wiring}
 use Rattle.mender.specs.declared.report.Change.{Change}
@@ -14,7 +13,7 @@ use Rattle.mender.specs.Report.{mends}
 abbrev pub OfEachTable : (ℕ → ℕ → List ℕ → Type 0) → Type 0
 OfEachTable P = (w : Wiring) (n : ℕ) (t : List ℕ) → is_size n ≡ true → length t ≡ table_length n → P w n t
 
--- Rule Mended passes: refusals 24 and 1 to 4 let the mended table through
+-- Rule Mended passes: refusals 1 to 4 let the mended table through
 abbrev pub MendedPasses : Type 0
 MendedPasses = OfEachTable (λ w n t. table_check w n (mended w n t) ≡ Ok tt)
 
@@ -22,7 +21,7 @@ MendedPasses = OfEachTable (λ w n t. table_check w n (mended w n t) ≡ Ok tt)
 abbrev pub MendedOnce : Type 0
 MendedOnce = OfEachTable (λ w n t. (mended w n (mended w n t) ≡ mended w n t) × (mends w n (mended w n t) ≡ []))
 
--- Rule Good table stays: a table that refusals 24 and 1 to 4 let through is not changed, and nothing is listed
+-- Rule Good table stays: a table that refusals 1 to 4 let through is not changed, and nothing is listed
 abbrev pub GoodTableStays : Type 0
 GoodTableStays = (w : Wiring) (n : ℕ) (t : List ℕ) → table_check w n t ≡ Ok tt → (mended w n t ≡ t) × (mends w n t ≡ [])
 

@@ -1,4 +1,4 @@
--- The mended table: what each byte of a line becomes, and then, if the round would be over, bytes 1 to 3 of all lines. w is the wiring's number.
+-- The mended table: what each byte of a line becomes, and then, if the round would be over, bytes 1 to 3 of all lines. w is the wiring.
 -- Assumes nothing.
 use Rattle.std.specs.Prelude.{ℕ, ◌/◌, ◌%◌, ◌-◌, Bool, ◌&&◌, ◌||◌, List, if◌then◌else◌, ◌==◌, nat_lt, nat_le}
 use Rattle.lists.specs.Search.{list_of}

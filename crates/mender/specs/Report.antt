@@ -36,7 +36,7 @@ report_of cs len = let listed = flat_map change_bytes cs in listed ++ replicate 
 abbrev pub mends : Wiring → ℕ → List ℕ → List Change
 mends w n t = changes t (mended w n t)
 
--- Rule Mend, its refusals: 24, 1, 2, then 23: the buffer for the report has fewer than 4n(n + 6) bytes
+-- Rule Mend, its refusals: 1, 2, then 23: the buffer for the report has fewer than 4n(n + 6) bytes
 unfoldable pub mend_check : Wiring → ℕ → ℕ → ℕ → Check
 mend_check w n len room = shape_check n len and ensure (nat_le (4 * table_length n) room) ReportTooShort
 

@@ -19,14 +19,13 @@ use lists::refusal::Refusal;
 use table::lent::Table;
 use table::wiring::Wiring;
 
-// Mends the table, lists the changes in the report, and answers how many they are: refusals 24, 1, 2 and 23.
-#[tactic(auto, using(table::proofs::WiringLaws::wiring_ok, table::proofs::WiringLaws::wiring_err), unfolding(crate::specs::Report::mend, crate::specs::Report::mend_check, crate::specs::Report::table_after, crate::specs::Report::report_after))]
-pub fn mend(wiring: usize, n: usize, table: &mut [u8], report: &mut [u8]) -> Result<usize, Refusal>
+// Mends the table, lists the changes in the report, and answers how many they are: refusals 1, 2 and 23.
+#[tactic(auto, unfolding(crate::specs::Report::mend, crate::specs::Report::mend_check, crate::specs::Report::table_after, crate::specs::Report::report_after))]
+pub fn mend(wiring: Wiring, n: usize, table: &mut [u8], report: &mut [u8]) -> Result<usize, Refusal>
     ensures number_of_changes { result ≡ mend wiring n table.old (length report.old) }
     ensures mended_table { table.new ≡ table_after wiring n table.old (length report.old) }
     ensures listed_changes { report.new ≡ report_after wiring n table.old report.old }
 {
-    let wiring = Wiring::try_from(wiring)?;
     let lent = Table::of(n, table)?;
     if report.len() / 4 < lent.bytes.len() {
         return Err(Refusal::ReportTooShort);

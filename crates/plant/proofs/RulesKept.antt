@@ -113,7 +113,7 @@ accepted-kept w n s e a z = pick (round_over n t) refl
         make (reset_lines n t) (reset-lines w n t lines) (unfinished-open n (reset_lines n t) (λ i h. (reset-cells n t lines.0 i h).unfinished))
     pick false c = make t lines c
 
--- rule Empty schedule: on a wiring and a table that refusals 24 and 1 to 4 let through it is accepted and changes nothing. An end in itself
+-- rule Empty schedule: on a wiring and a table that refusals 1 to 4 let through it is accepted and changes nothing. An end in itself
 pub empty-run : (w : Wiring) (n : ℕ) (s : State) → table_refusal w n s.table ≡ 0
     → run w n s [] [] ≡ record { number = 0; taken = 0; state = s; sheet = [] }
 unfolding run start_check go_on entries
@@ -148,7 +148,7 @@ accepted-run w n s schedule sheet a = pick (eqb (start_refusal w n s.table (leng
     pick true = accepted-on w n 0 s sheet (entries schedule) a
     pick false = a
 
--- a table that refusals 24 and 1 to 4 let through is let through after every run, an end in itself
+-- a table that refusals 1 to 4 let through is let through after every run, an end in itself
 pub run-keeps-rules : (w : Wiring) (n : ℕ) (s : State) (schedule sheet : List ℕ)
     → table_refusal w n s.table ≡ 0 → table_refusal w n (run w n s schedule sheet).state.table ≡ 0
 run-keeps-rules w n s schedule sheet z = accepted-number w n _ (accepted-run w n s schedule sheet (accepted w n s.table z))

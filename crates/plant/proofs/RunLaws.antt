@@ -109,7 +109,7 @@ pub go-one : (w : Wiring) (n : ℕ) (s : State) (sheet : List ℕ) (k i : ℕ) �
 unfolding go_on entries
 go-one w n s sheet k i z = rw z
 
--- what a run has that refusals 24 and 1 to 6 let through
+-- what a run has that refusals 1 to 6 let through
 start_ok : (w : Wiring) (n : ℕ) (t : List ℕ) (a b : ℕ) (x : Unit {0}) → start_check w n t a b ≡ Ok x → Accepted w n t × (a % 2 ≡ 1 → ⊥) × (b ≡ 2 * a)
 unfolding start_check
 start_ok w n t a b x e =

@@ -1,4 +1,4 @@
--- One entry of a schedule: refusals 7 to 11, then what the entry does, for all inputs. w is the wiring's number.
+-- One entry of a schedule: refusals 7 to 11, then what the entry does, for all inputs. w is the wiring.
 -- Assumes nothing.
 use Rattle.std.specs.Prelude.{ℕ, ◌+◌, Bool, not, ◌&&◌, ◌||◌, List, [], ◌∷◌, if◌then◌else◌, ◌==◌, nat_le}
 use Rattle.table.specs.Table.{status, finished, live}

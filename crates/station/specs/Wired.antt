@@ -1,4 +1,4 @@
--- What a wiring says of the stations that a station tests: who stands at a distance, and at which distances it tests. w is the wiring's number.
+-- What a wiring says of the stations that a station tests: who stands at a distance, and at which distances it tests. w is the wiring.
 -- Assumes nothing.
 use Rattle.std.specs.Prelude.{ℕ, ◌+◌, ◌-◌, ◌%◌, Bool, ◌&&◌, ◌||◌, List, if◌then◌else◌, ◌==◌}
 use Rattle.lists.specs.Search.{least}

@@ -31,7 +31,7 @@ unfolding some_live live_finished
 round-done n t i some a b e s =
     rw (← every-done (finished_if_live n t) n i e a b, and-true) (s ∙ ap (λ k. not (every (not_live n t) k)) (le_antisymm a b))
 
--- a wiring and a table that refusals 24 and 1 to 4 let through
+-- a wiring and a table that refusals 1 to 4 let through
 pub record Accepted (w : Wiring) (n : ℕ) (t : List ℕ) : Type 0 where
   pub size : is_size n ≡ true
   pub long : length t ≡ table_length n

@@ -1,4 +1,4 @@
--- The line rules, and refusals 24, 1 to 4, 9 and 13, which several calls have.
+-- The line rules, and refusals 1 to 4, 9 and 13, which several calls have.
 -- Assumes nothing.
 use Rattle.std.specs.Prelude.{ℕ, ◌-◌, Bool, not, ◌&&◌, ◌||◌, List, length, if◌then◌else◌, ◌==◌, nat_lt, nat_le}
 use Rattle.lists.specs.Search.{every}
