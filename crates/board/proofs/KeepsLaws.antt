@@ -17,7 +17,7 @@ use Rattle.lists.proofs.BoolLaws.{by_bool}
 use Rattle.lists.proofs.SearchLaws.{both, every-at, every-all, list_of-length, list_of-at}
 use Rattle.lists.proofs.RefusalLaws.{ensure_ok, and_ok}
 use Rattle.table.specs.Sizes.{is_size}
-use Rattle.table.specs.Wiring.{wiring_check, end_distance}
+use Rattle.table.specs.Wiring.{end_distance}
 use Rattle.table.specs.Fresh.{fresh_byte}
 use Rattle.table.specs.Table.{head, stride, status_column, next_column, finished_column, tests_column, told_by_column, told_by_none}
 use Rattle.table.specs.Table.{rounds_ago_column, rounds_ago_top, status_told, status_alone}
@@ -45,7 +45,6 @@ use Rattle.board.specs.Calls.{line_rules, place_check, line_check, turn_check, r
 
 -- a line that is let through
 pub record Good (w : Wiring) (n i : ℕ) (l : List ℕ) : Type 0 where
-  pub wired : wiring_check w ≡ Ok tt
   pub size : is_size n ≡ true
   pub below : i < n
   pub long : length l ≡ stride n
@@ -56,18 +55,16 @@ pub record Good (w : Wiring) (n i : ℕ) (l : List ℕ) : Type 0 where
   pub range : (k : ℕ) → k < n → get_or l (head + k) 0 ≤ 1
 
 pub good : (w : Wiring) (n i : ℕ) (l : List ℕ) → line_check w n i l ≡ Ok tt → Good w n i l
-unfolding line_check place_check line_rules Cube
+unfolding line_check place_check line_rules
 good w n i l e =
     let z = and_ok _ _ tt e in
-    let p = and_ok _ _ tt z.0 in
-    let q = and_ok _ _ tt p.1 in
+    let q = and_ok _ _ tt z.0 in
     let r = and_ok _ _ tt q.1 in
     let a = both _ _ (ensure_ok _ _ _ z.1) in
     let b = both _ _ a.0 in
     let c = both _ _ b.0 in
     let d = both _ _ a.1 in
     record {
-      wired = p.0;
       size = ensure_ok _ _ _ q.0;
       below = ltb-true i n (ensure_ok _ _ _ r.0);
       long = eqb-true (length l) (stride n) (ensure_ok _ _ _ r.1);
@@ -79,10 +76,9 @@ good w n i l e =
     }
 
 pub checked : (w : Wiring) (n i : ℕ) (l : List ℕ) → Good w n i l → line_check w n i l ≡ Ok tt
-unfolding line_check place_check line_rules Cube
+unfolding line_check place_check line_rules
 checked w n i l g =
     rw (
-      g.wired,
       g.size,
       lt-ltb i n g.below,
       eq-eqb (length l) (stride n) g.long,
@@ -117,7 +113,6 @@ module _ (w : Wiring) (n i : ℕ) (l : List ℕ) (g : Good w n i l) where
   counts-kept l' long same pass =
       let at : (k : ℕ) → k ≢ next_column → k ≢ finished_column → k ≢ tests_column → get_or l' k 0 ≡ get_or l k 0 = same in
       record {
-        wired = g.wired;
         size = g.size;
         below = g.below;
         long = long ∙ g.long;
@@ -185,7 +180,6 @@ module _ (w : Wiring) (n i : ℕ) (l : List ℕ) (g : Good w n i l) where
       → Good w n i l'
   exit-kept l' long same s e low exits =
       record {
-        wired = g.wired;
         size = g.size;
         below = g.below;
         long = long ∙ g.long;
@@ -233,7 +227,6 @@ module _ (w : Wiring) (n i : ℕ) (l : List ℕ) (g : Good w n i l) where
       → ((k : ℕ) → k < n → get_or l' (head + k) 0 ≤ 1) → Good w n i l'
   row-kept l' long same own range =
       record {
-        wired = g.wired;
         size = g.size;
         below = g.below;
         long = long ∙ g.long;
@@ -291,7 +284,6 @@ module _ (w : Wiring) (n i : ℕ) (l : List ℕ) (g : Good w n i l) where
   pub close-good : Good w n i (round_closed l)
   unfolding round_closed
   close-good = record {
-    wired = g.wired;
     size = g.size;
     below = g.below;
     long = length-set l₃ rounds_ago_column ago ∙ long₃;
@@ -462,12 +454,10 @@ fresh-row n k h =
 fresh-good : (w : Wiring) (n i len : ℕ) → place_check w n i len ≡ Ok tt → Good w n i (fresh_line n)
 unfolding place_check exit_rule
 fresh-good w n i len e =
-    let p = and_ok _ _ tt e in
-    let q = and_ok _ _ tt p.1 in
+    let q = and_ok _ _ tt e in
     let r = and_ok _ _ tt q.1 in
     let below : i < n = ltb-true i n (ensure_ok _ _ _ r.0) in
     record {
-      wired = p.0;
       size = ensure_ok _ _ _ q.0;
       below = below;
       long = list_of-length (fresh_byte n) (stride n);

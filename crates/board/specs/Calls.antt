@@ -7,28 +7,26 @@ use Rattle.lists.specs.declared.refusal.Refusal.TheVariants.{SizeOutOfRange, Lin
 use Rattle.lists.specs.Refusal.{Check, ensure, ◌and◌, unless_refused}
 use Rattle.lists.specs.Search.{list_of}
 use Rattle.table.specs.Sizes.{is_size}
-use Rattle.table.specs.Wiring.{wiring_check}
 use Rattle.table.specs.Table.{stride, finished_column}
 use Rattle.table.specs.Line.{row_of, is_live}
 use Rattle.table.specs.Rules.{head_rules_by, row_rule_by, station_check, length_check}
 use Rattle.table.specs.Fresh.{fresh_byte}
 use Rattle.table.specs.declared.wiring.Wiring.{Wiring}
-use Rattle.table.specs.declared.wiring.Wiring.TheVariants.{Cube}
 use Rattle.board.specs.Board.{suspicion_of, tested, next_station, turn_of, outcome, left_told, joined, round_closed}
 use Rattle.board.specs.Packed.{packed_length, pack, heard}
 
 -- Rule Own line, valid: all line rules, of the line of board i
-unfoldable pub line_rules Cube : Wiring → ℕ → ℕ → List ℕ → Bool
-line_rules Cube w n i l = head_rules_by w n i (slice_index l) && row_rule_by n i (suspicion_of l)
+unfoldable pub line_rules : Wiring → ℕ → ℕ → List ℕ → Bool
+line_rules w n i l = head_rules_by w n i (slice_index l) && row_rule_by n i (suspicion_of l)
 
--- refusals 24, 1, 9 and 25: there is no such wiring; n is not 2 to 64; the board's number is n or more; the line has not n + 6 bytes
+-- refusals 1, 9 and 25: n is not 2 to 64; the board's number is n or more; the line has not n + 6 bytes
 unfoldable pub place_check : Wiring → ℕ → ℕ → ℕ → Check
 place_check w n i len =
-    wiring_check w and ensure (is_size n) SizeOutOfRange and station_check n i and ensure (len == stride n) LineLength
+    ensure (is_size n) SizeOutOfRange and station_check n i and ensure (len == stride n) LineLength
 
 -- then 3: the line breaks a line rule
 unfoldable pub line_check : Wiring → ℕ → ℕ → List ℕ → Check
-line_check w n i l = place_check w n i (length l) and ensure (line_rules Cube w n i l) LineRule
+line_check w n i l = place_check w n i (length l) and ensure (line_rules w n i l) LineRule
 
 -- then 10: the board is not live
 unfoldable pub live_check : Wiring → ℕ → ℕ → List ℕ → Check

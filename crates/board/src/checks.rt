@@ -14,10 +14,10 @@ use table::wiring::Wiring;
 use table::{Station, rules, sizes};
 
 impl Board {
-    // A board whose line has this length: refusals 24, 1, 9 and 25.
-    #[tactic(auto, using(table::proofs::SizeLaws::size_top, table::proofs::WiringLaws::wiring_ok, table::proofs::WiringLaws::wiring_err), unfolding(crate::specs::Calls::place_check))]
+    // A board whose line has this length: refusals 1, 9 and 25.
+    #[tactic(auto, using(table::proofs::SizeLaws::size_top), unfolding(crate::specs::Calls::place_check))]
     pub(crate) fn checked(
-        wiring: usize,
+        wiring: Wiring,
         n: usize,
         own: Station,
         len: usize,
@@ -29,7 +29,6 @@ impl Board {
         ensures same_number { IfOk result (λ b. b.own ≡ own) }
         ensures line_fits { IfOk result (λ b. len ≡ stride b.wired.n) }
     {
-        let wiring = Wiring::try_from(wiring)?;
         if !sizes::is_size(n) {
             return Err(Refusal::SizeOutOfRange);
         }
@@ -112,10 +111,10 @@ impl Board {
     }
 
     // Whether the line keeps the line rules.
-    #[tactic(auto, using(table::proofs::StatusLaws::status_ok, table::proofs::StatusLaws::status_err, crate::proofs::RowLaws::row_rule_by_row), unfolding(crate::specs::Calls::line_rules Cube))]
+    #[tactic(auto, using(table::proofs::StatusLaws::status_ok, table::proofs::StatusLaws::status_err, crate::proofs::RowLaws::row_rule_by_row), unfolding(crate::specs::Calls::line_rules))]
     fn keeps_line_rules(self, line: &[u8]) -> bool
         requires { length line.now ≡ stride self.wired.n }
-        ensures { result ≡ line_rules Cube self.wired.wiring self.wired.n self.own.0 line.now }
+        ensures { result ≡ line_rules self.wired.wiring self.wired.n self.own.0 line.now }
     {
         let Ok(status) = Status::try_from(line[board::STATUS]) else {
             return false;

@@ -67,7 +67,7 @@ below-four P a b c d (suc (suc (suc (suc k)))) h = absurd (omega arith)
 unfoldable whole_cable : Unit {0}
 unfolding whole_run all_but turns_of all_turns live_boards count_of_tests sum_below row_of with_row next_of tests tested next_station pass_finished
     counted left_told joined suspecting alone after_alone outcome_of after_outcome tested_at turn_of outcome round_closed bits packed_byte pack
-    heard_byte heard line_rules Cube place_check line_check live_check turn_check replied_check row_check sent_check exchanged_check reply_from
+    heard_byte heard line_rules place_check line_check live_check turn_check replied_check row_check sent_check exchanged_check reply_from
     after_sending after_turn after_crash after_act all_finished after_closing after_entry after_entries counts_by_round
 whole_cable = tt
 

@@ -26,8 +26,8 @@ use Rattle.board.specs.Calls.{line_rules, place_check, line_check}
 use Rattle.cable.specs.Claims.{LinesOfTables}
 
 -- the rules of the line are those that the table asks of it
-pub rules-same : (w : Wiring) (n : ℕ) (t : List ℕ) (i : ℕ) → i < n → line_rules Cube w n i (line n t i) ≡ line_rules w n t i
-unfolding line_rules Cube line_rules row_rule
+pub rules-same : (w : Wiring) (n : ℕ) (t : List ℕ) (i : ℕ) → i < n → line_rules w n i (line n t i) ≡ line_rules w n t i
+unfolding line_rules line_rules row_rule
 rules-same w n t i h =
     rw (
       line_at n t i status_column (omega arith),
@@ -41,7 +41,7 @@ rules-same w n t i h =
     )
 
 -- a line that is let through keeps them
-pub rules-of : (w : Wiring) (n i : ℕ) (l : List ℕ) → line_check w n i l ≡ Ok tt → line_rules Cube w n i l ≡ true
+pub rules-of : (w : Wiring) (n i : ℕ) (l : List ℕ) → line_check w n i l ≡ Ok tt → line_rules w n i l ≡ true
 unfolding line_check
 rules-of w n i l e = ensure_ok _ _ _ (and_ok _ _ tt e).1
 

@@ -15,7 +15,7 @@ use Rattle.lists.specs.Search.{every}
 use Rattle.lists.proofs.SearchLaws.{both, every-at, every-all}
 use Rattle.lists.proofs.BoolLaws.{by_bool, every-same}
 use Rattle.table.specs.Sizes.{is_size}
-use Rattle.table.specs.Wiring.{wiring_check, end_distance}
+use Rattle.table.specs.Wiring.{end_distance}
 use Rattle.table.specs.Table.{head, stride, table_length, cell, status_told, told_by_none}
 use Rattle.table.specs.Table.{status, next_distance, finished, tests_made, told_by, rounds_ago, suspects}
 use Rattle.table.specs.Rules.{pass_rule, exit_rule, suspicion_rule, row_rule, line_rules, shape_check, table_check}

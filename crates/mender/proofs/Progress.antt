@@ -187,30 +187,30 @@ reached-start w over m none =
     }
 
 -- the same place by another name
-pub reached-at : {w p q : ℕ} {over : Bool} {m now : Mending} → Reached w over m now p → p ≡ q → Reached w over m now q
+pub reached-at : {w : Wiring} {p q : ℕ} {over : Bool} {m now : Mending} → Reached w over m now p → p ≡ q → Reached w over m now q
 reached-at {w} {p} {q} {over} {m} {now} g e = subst (λ (x : ℕ). Reached w over m now x) e g
 
 -- a place of line i is one of the table
-pub reached-inside : {w p : ℕ} {over : Bool} {m now : Mending} (i c at : ℕ) → Reached w over m now p → i < m.n → c < stride m.n
+pub reached-inside : {w : Wiring} {p : ℕ} {over : Bool} {m now : Mending} (i c at : ℕ) → Reached w over m now p → i < m.n → c < stride m.n
     → at ≡ line_start m.n i + c → at < length now.table.now
 reached-inside {w} {p} {over} {m} {now} i c at g h hc a =
     let long : length now.table.now ≡ table_length m.n = now.fits ∙ ap table_length g.same.size in
     omega (arith, inside m.n i c h hc)
 
 -- as many changes as places at most
-pub reached-few : {w p : ℕ} {over : Bool} {m now : Mending} → Reached w over m now p → now.changes ≤ p
+pub reached-few : {w : Wiring} {p : ℕ} {over : Bool} {m now : Mending} → Reached w over m now p → now.changes ≤ p
 reached-few {w} {p} {over} {m} {now} g =
     omega (arith, g.so_far.counted, changes-few m.table.now (mended_by w m.n m.table.now over) p)
 
 -- a byte of a line that the loops have not reached
-reached-ahead : {w p : ℕ} {over : Bool} {m now : Mending} (i c : ℕ) → Reached w over m now p → p ≤ line_start m.n i + c
+reached-ahead : {w : Wiring} {p : ℕ} {over : Bool} {m now : Mending} (i c : ℕ) → Reached w over m now p → p ≤ line_start m.n i + c
     → cell m.n now.table.now i c ≡ cell m.n m.table.now i c
 unfolding cell
 reached-ahead {w} {p} {over} {m} {now} i c g h =
     progress-ahead m.table.now (mended_by w m.n m.table.now over) m.report.now p _ _ _ (line_start m.n i + c) g.so_far h
 
 -- the mended byte is put at its place
-pub reached-next : {w p at byte : ℕ} {over : Bool} {m now next : Mending} (q : ℕ) → Reached w over m now p → at ≡ p → q ≡ p + 1
+pub reached-next : {w : Wiring} {p at byte : ℕ} {over : Bool} {m now next : Mending} (q : ℕ) → Reached w over m now p → at ≡ p → q ≡ p + 1
     → byte ≡ get_or (mended_by w m.n m.table.now over) p 0 → IsSameMending now next → next.table.now ≡ set now.table.now at byte
     → next.report.now ≡ with_change now.report.now now.changes (record { offset = at; before = get_or now.table.now at 0; after = byte })
     → next.changes ≡ count_with now.changes (record { offset = at; before = get_or now.table.now at 0; after = byte })
@@ -235,7 +235,7 @@ head-put {w} {over} {m} {now} i c read made g h hc e d b =
     ∙ sym (table_of-at m.n (mended_byte w m.n m.table.now over) i c h (omega arith))
 
 -- a byte of the row of line i that the loops have not reached
-pub row-put : {w p : ℕ} {over : Bool} {m now : Mending} (i k at : ℕ) → Reached w over m now p → p ≤ at → i < m.n → k < m.n
+pub row-put : {w : Wiring} {p : ℕ} {over : Bool} {m now : Mending} (i k at : ℕ) → Reached w over m now p → p ≤ at → i < m.n → k < m.n
     → at ≡ line_start m.n i + (head + k)
     → mended_suspicion i k (get_or now.table.now at 0) ≡ get_or (mended_by w m.n m.table.now over) (line_start m.n i + (head + k)) 0
 unfolding cell
@@ -268,7 +268,7 @@ row-skip {w} {over} {m} {now} i read g h e d kept =
     reached-at (record { same = g.same; so_far = end }) (omega (arith, line-next m.n i))
 
 -- after the last line
-pub all-done : {w p : ℕ} {over : Bool} {m now : Mending} → Reached w over m now p → p ≡ line_start m.n m.n
+pub all-done : {w : Wiring} {p : ℕ} {over : Bool} {m now : Mending} → Reached w over m now p → p ≡ line_start m.n m.n
     → let u = mended_by w m.n m.table.now over in
     (now.table.now ≡ u) × (now.report.now ≡ sets m.report.now 0 (flat_map change_bytes (changes m.table.now u)))
     × (now.changes ≡ length (changes m.table.now u))

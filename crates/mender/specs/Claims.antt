@@ -9,8 +9,8 @@ use Rattle.mender.specs.declared.report.Change.{Change}
 use Rattle.mender.specs.Mended.{mended}
 use Rattle.mender.specs.Report.{mends}
 
--- what holds of all tables of n stations: w is a wiring, n a size, and t has n(n + 6) bytes
-abbrev pub OfEachTable : (ℕ → ℕ → List ℕ → Type 0) → Type 0
+-- what holds of all tables of n stations on each wiring: n is a size, and t has n(n + 6) bytes
+abbrev pub OfEachTable : (Wiring → ℕ → List ℕ → Type 0) → Type 0
 OfEachTable P = (w : Wiring) (n : ℕ) (t : List ℕ) → is_size n ≡ true → length t ≡ table_length n → P w n t
 
 -- Rule Mended passes: refusals 1 to 4 let the mended table through

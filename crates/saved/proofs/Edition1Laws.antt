@@ -15,7 +15,7 @@ use Rattle.lists.proofs.BoolLaws.{by_bool, every-same}
 use Rattle.table.specs.Table.{line_start, cell}
 use Rattle.table.specs.Table.{stride as stride_2, table_length as table_length_2, suspects as suspects_2}
 use Rattle.table.specs.Rules.{exit_rule, suspicion_rule, shape_check, table_check, some_live, live_finished}
-use Rattle.table.specs.Rules.{row_rule as row_rule_2, line_rules as line_rules_2, line_rules, round_over as round_over_2}
+use Rattle.table.specs.Rules.{row_rule as row_rule_2, line_rules as line_rules_2, round_over as round_over_2}
 use Rattle.table.specs.declared.wiring.Wiring.TheVariants.{Cube}
 use Rattle.saved.specs.Fields.{only_contents}
 use Rattle.saved.specs.Plant.{line_in, of_station, lines_right, table_in}
@@ -107,8 +107,8 @@ module _ (n : ℕ) (t : List ℕ) (long : length t ≡ table_length n) where
         (every-same (suspicion_rule n (converted_table n t) i) (λ k. nat_le (cell_1 n t i (head + k)) 1) n
         (λ k b. ap (λ (v : ℕ). nat_le v 1) (row-stays k b)))
 
-    rules-same : line_rules_2 n (converted_table n t) i ≡ line_rules Cube n t i
-    unfolding line_rules line_rules Cube
+    rules-same : line_rules_2 Cube n (converted_table n t) i ≡ line_rules n t i
+    unfolding line_rules_2 line_rules
     rules-same =
         rw (
           head-stays 0 (omega arith),

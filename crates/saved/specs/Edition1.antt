@@ -44,8 +44,8 @@ unfoldable pub row_rule : ℕ → List ℕ → ℕ → Bool
 row_rule n t i = suspects n t i i == 0 && every (λ k. nat_le (suspects n t i k) 1) n
 
 -- Rule Line rules of edition 1: bytes 0 to 3 and the row obey the rules that they obey in edition 2
-unfoldable pub line_rules Cube : ℕ → List ℕ → ℕ → Bool
-line_rules Cube n t i =
+unfoldable pub line_rules : ℕ → List ℕ → ℕ → Bool
+line_rules n t i =
     status_rule (cell n t i status_column)
     && pass_rule (end_distance Cube n) (cell n t i next_column) (cell n t i finished_column) (cell n t i tests_column) && row_rule n t i
 
@@ -59,7 +59,7 @@ round_over n t = not (every (not_live n t) n) && every (λ i. not_live n t i || 
 
 -- 3, then 4
 unfoldable pub rules_check : ℕ → List ℕ → Check
-rules_check n t = ensure (every (line_rules Cube n t) n) LineRule and ensure (not (round_over n t)) RoundNotClosed
+rules_check n t = ensure (every (line_rules n t) n) LineRule and ensure (not (round_over n t)) RoundNotClosed
 
 -- the reader of edition 1, which is no more: 18, 19, 1, 20, 2, 3, 4; what it answered, and the table that it left, given t
 unfoldable pub reader_check : List ℕ → ℕ → Check

@@ -32,7 +32,7 @@ unfoldable pub size_check : List ℕ → Check
 size_check file = ensure (not (runs_past file)) FieldPastEnd and order_check (fields_of file) and plant_check (fields_of file)
 
 -- of a file of that size with those contents of tag 3, for a table buffer of length len: 20, 2, 3, 4. The file's own table has that size and the
--- right length, so that of table_check Cube's refusals only 3 and 4 are left
+-- right length, so that of table_check's refusals only 3 and 4 are left
 unfoldable pub rest_check : ℕ → List (List ℕ) → ℕ → Check
 rest_check n cs len =
     ensure (lines_right (line_field_length n) n cs) LineField and ensure (len == table_length n) TableLength and table_check Cube n (table_in n cs)
