@@ -95,7 +95,6 @@ module _ (w : Wiring) (n : ℕ) (b : Lines) (es : List Entry) (begin : BoardsBeg
 
   premises : DetectionPremises w n s calls
   premises = record {
-    wiring = (ok w n b begin).wired;
     size = (ok w n b begin).size;
     long = (ok w n b begin).long;
     start = start w n b begin;
@@ -154,7 +153,7 @@ module _ (w : Wiring) (n : ℕ) (b : Lines) (es : List Entry) (begin : BoardsBeg
     }
 
 -- the claim, within any number of rounds within which detection's holds
-boards-detect : (rounds : ℕ → ℕ → ℕ) → Detection rounds → BoardsDetect rounds
+boards-detect : (rounds : Wiring → ℕ → ℕ) → Detection rounds → BoardsDetect rounds
 boards-detect rounds claim w n b es begin turns =
     carried w n b es begin turns (rounds w n) (claim w n (s w n b es begin turns) (calls w n b es begin turns) (premises w n b es begin turns))
 

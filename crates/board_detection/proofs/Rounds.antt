@@ -23,6 +23,7 @@ use Rattle.detection.proofs.Counting.{Counts, counts_start}
 use Rattle.cable.specs.Boards.{Lines, Hold, after_act, all_finished, after_entry, after_entries}
 use Rattle.board_detection.specs.Detect.{TurnInTime, TurnsInTime, board_tests, counts_by_round}
 use Rattle.board_detection.proofs.Steps.{Beside, beside-after, no_crash, takes, in_time, test-same, over, counted, closing-same}
+use Rattle.table.proofs.WiringLaws.{same-itself}
 
 -- q of an entry that boards take is r of the one that the table takes
 abbrev pub Alike : Wiring → ℕ → (Lines → Entry → Bool) → (Taken → Bool) → Type 0
@@ -80,7 +81,7 @@ module _ (w : Wiring) (n : ℕ) (s : State) (b : Lines) (e : Entry) (es : List E
           → map (count_taken r) (all_rounds (cut cur (taken_from w n s (e ∷ es)))) ≡ counts_by_round q w n (count_taken r cur) b (e ∷ es))
           → SameRounds w n s b cur (e ∷ es)
       with now r counts = record {
-        one_wiring = rw z (ap₂ ◌&&◌ (eq-eqb w w refl) r.one_wiring);
+        one_wiring = rw z (ap₂ ◌&&◌ (same-itself w) r.one_wiring);
         no_crash = rw z (ap₂ ◌&&◌ (ap not (no_crash w n s b e at turn)) r.no_crash);
         no_late = rw z (ap₂ ◌&&◌ (ap not (in_time w n s b e at turn)) r.no_late);
         counts = counts;

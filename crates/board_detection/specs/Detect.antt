@@ -92,7 +92,7 @@ pub record BoardsKnow (enough : ℕ) (w : Wiring) (n : ℕ) (b : Lines) (es : Li
   pub tests : (k : ℕ) → counted_from w enough ≤ k → k < closed_rounds w n b es → slice_index (tests_by_round w n b es) k ≡ count_of_tests w n b
 
 -- Rule Boards detect: within so many rounds by wiring and size, for any number of entries, in any order
-abbrev pub BoardsDetect : (ℕ → ℕ → ℕ) → Type 0
+abbrev pub BoardsDetect : (Wiring → ℕ → ℕ) → Type 0
 BoardsDetect rounds =
     (w : Wiring) (n : ℕ) (b : Lines) (es : List Entry) → BoardsBegin w n b → TurnsInTime w n b es → BoardsKnow (rounds w n) w n b es
 

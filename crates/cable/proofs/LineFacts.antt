@@ -17,7 +17,6 @@ use Rattle.table.specs.Table.{rounds_ago_column}
 use Rattle.table.specs.Line.{line}
 use Rattle.table.specs.Rules.{line_rules, row_rule}
 use Rattle.table.specs.Sizes.{is_size}
-use Rattle.table.specs.Wiring.{wiring_check}
 use Rattle.table.proofs.Accepting.{accepted}
 use Rattle.table.proofs.LineLaws.{line_at, line-length}
 use Rattle.table.specs.declared.wiring.Wiring.{Wiring}

@@ -19,7 +19,6 @@ use Rattle.table.specs.Table.{finished, live}
 use Rattle.table.specs.Line.{line, is_live}
 use Rattle.table.specs.Rules.{round_over, table_refusal}
 use Rattle.table.specs.Sizes.{is_size}
-use Rattle.table.specs.Wiring.{wiring_check}
 use Rattle.table.proofs.Accepting.{Accepted, accepted}
 use Rattle.table.proofs.CellLaws.{Line, line-holds}
 use Rattle.table.proofs.LineLaws.{line-set, line-set-other}

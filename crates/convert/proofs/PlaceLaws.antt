@@ -15,7 +15,6 @@ use Rattle.lists.specs.Refusal.{Check}
 use Rattle.table.specs.Sizes.{is_size}
 use Rattle.table.specs.Table.{line_start, table_length}
 use Rattle.table.specs.Fresh.{fresh_table, fresh_after}
-use Rattle.table.specs.Wiring.{wiring_cube}
 use Rattle.table.specs.Rules.{shape_check, table_check, table_check_on, numbered_shape_check}
 use Rattle.saved.specs.Fields.{extent, first_field}
 use Rattle.saved.specs.Plant.{station_in}

@@ -13,7 +13,6 @@ use Rattle.lists.specs.Refusal.{number_of_result}
 use Rattle.lists.proofs.BoolLaws.{by_bool}
 use Rattle.lists.proofs.RefusalLaws.{and_same}
 use Rattle.std.proofs.lemmas.List.Elements.{All-head, All-tail}
-use Rattle.table.specs.Wiring.{wiring_check}
 use Rattle.table.specs.Table.{table_length, finished_column, live}
 use Rattle.table.specs.Rules.{round_over, shape_check, table_check, table_refusal}
 use Rattle.table.proofs.Accepting.{accepted, shape_ok}

@@ -2,7 +2,6 @@
 -- done; s' and r' are what is left of them.
 -- Assumes nothing.
 use Rattle.std.specs.Prelude.{ℕ, ◌<◌, ◌≡◌, true, List, [], ◌∷◌, All, Ok}
-use Rattle.table.specs.Wiring.{wiring_check}
 use Rattle.table.specs.Table.{stride, cell, status, live}
 use Rattle.table.specs.Rules.{table_refusal}
 use Rattle.table.specs.declared.wiring.Wiring.{Wiring}

@@ -22,6 +22,8 @@ use Rattle.lists.proofs.BoolLaws.{by_bool}
 use Rattle.lists.proofs.SearchLaws.{both}
 use Rattle.table.specs.declared.wiring.Wiring.{Wiring}
 use Rattle.detection.proofs.TakenLaws.{taken_at}
+use Rattle.table.proofs.WiringLaws.{same-is}
+use Rattle.table.specs.Wiring.{same_wiring}
 
 -- entries taken one behind the other at size n, each on the wiring of its run, from a state to a state
 pub data Chain (n : ℕ) : State → List Taken → State → Type 0 where
@@ -39,8 +41,8 @@ pub on-wiring : {w : Wiring} {n : ℕ} {s s' : State} {xs : List Taken} → Chai
 unfolding all_taken
 on-wiring done one = ends
 on-wiring {w} (more {xs = xs} v e a z c) one =
-    let p = both (eqb v w) (all_taken (is_on w) xs) one in
-    let same = eqb-true v w p.0 in
+    let p = both (same_wiring v w) (all_taken (is_on w) xs) one in
+    let same = same-is v w p.0 in
     rw same (next e (rw same at a) z (rw same at (on-wiring c p.1)))
 
 -- two chains, one behind the other

@@ -32,7 +32,7 @@ use Rattle.detection.specs.Claim.{triangle_rounds, DetectionInTriangle, worst_la
 use Rattle.detection.specs.InList.{DetectionInList}
 use Rattle.lists.proofs.BoolLaws.{by_bool}
 use Rattle.lists.proofs.SumLaws.{sum-single, sum-zero}
-use Rattle.table.specs.Wiring.{is_ring, wiring_check}
+use Rattle.table.specs.Wiring.{is_ring}
 use Rattle.table.specs.declared.wiring.Wiring.{Wiring}
 use Rattle.table.specs.declared.wiring.Wiring.TheVariants.{Cube, Ring}
 use Rattle.detection.proofs.Latency.{latency-le-triangle, latency-le-square}
@@ -183,27 +183,17 @@ ring-of n s calls given =
 on-ring : (n : ℕ) → DetectionAt Ring n (ring_latency n)
 on-ring n s calls given = detection-by Ring n s calls given (ring-of n s calls given) (ring_latency n) (omega arith) (omega arith) refl
 
--- a wiring that is not the cube is the ring
-no-third : (w : Wiring) → w ≢ Cube → w ≡ Ring
-no-third w h ne = grind (arith, nat_tests)
-
--- what holds of both wirings holds of each that refusal 24 lets through
-pub on-each : (P : ℕ → Type 0) (w : Wiring) → P Cube → P Ring → P w
-on-each P w h cube ring =
-    by_bool (eqb w Cube) (λ e. subst P (sym (eqb-true w Cube e)) cube)
-    (λ e. subst P (sym (no-third w h (eqb-false w Cube e))) ring)
-
 -- the claim within the worst case, an end in itself
 pub detection-in-worst-case : Detection worst_rounds
-detection-in-worst-case w n s calls given =
-    on-each (λ (w : Wiring). DetectionAt w n (worst_rounds w n)) w given.wiring (on-cube n) (on-ring n) s calls given
+detection-in-worst-case Cube n = on-cube n
+detection-in-worst-case Ring n = on-ring n
 
 -- the rounds from which on the tests are counted grow with those that are enough
 counted-later : (w : Wiring) (a b : ℕ) → a ≤ b → counted_from w a ≤ counted_from w b
 counted-later w a b h = by_bool (is_ring w) (λ e. rw e (omega arith)) (λ e. rw e h)
 
 -- and so within any number of rounds that is not less
-pub within : (rounds : ℕ → ℕ → ℕ) → ((w : Wiring) (n : ℕ) → 2 ≤ n → worst_rounds w n ≤ rounds w n) → Detection rounds
+pub within : (rounds : Wiring → ℕ → ℕ) → ((w : Wiring) (n : ℕ) → 2 ≤ n → worst_rounds w n ≤ rounds w n) → Detection rounds
 within rounds enough w n s calls given =
     let c = detection-in-worst-case w n s calls given in
     let fewer : worst_rounds w n ≤ rounds w n = enough w n (omega (arith, size-bounds n given.size)) in
@@ -233,7 +223,7 @@ after-one-more s [] c = refl
 after-one-more s (b ∷ calls) c = after-one-more (after_run s b) calls c
 
 -- a claim about lists, of the last run of a list
-last-run : (rounds : ℕ → ℕ → ℕ) → Detection rounds → (c : Call) (before : State) → DetectionAfter rounds c before (after_run before c)
+last-run : (rounds : Wiring → ℕ → ℕ) → Detection rounds → (c : Call) (before : State) → DetectionAfter rounds c before (after_run before c)
 last-run rounds claim c before w n s calls e given = rw (after-one-more s calls c, e) at (claim w n s (calls ++ (c ∷ [])) given)
 
 -- a run promises the claim, wherever it stands in a list

@@ -36,6 +36,7 @@ use Rattle.detection.specs.Driven.{DrivenDetectionConclusion, DrivenDetection, D
 use Rattle.detection.specs.InList.{DrivenDetectionInList}
 use Rattle.granter.proofs.Stops.{drive-stops}
 use Rattle.detection.proofs.DriveRuns.{driving-at, drive-is-turns}
+use Rattle.table.proofs.WiringLaws.{same-itself}
 
 -- the runs of a run or a drive leave what it leaves
 one-mixed-left : (s : State) (x : RunOrDrive) → after_runs s (runs_of_one s x) ≡ after_one s x
@@ -51,7 +52,7 @@ mixed-left s (x ∷ xs) =
     rw (after-append s (runs_of_one s x) (runs_of_mixed (after_one s x) xs), one-mixed-left s x) (mixed-left (after_one s x) xs)
 
 -- a claim about lists of runs, of lists that mix runs and drives
-pub mixed-detection : (rounds : ℕ → ℕ → ℕ) → Detection rounds → MixedDetection rounds
+pub mixed-detection : (rounds : Wiring → ℕ → ℕ) → Detection rounds → MixedDetection rounds
 mixed-detection rounds claim w n s xs given =
     subst (DetectionConclusion (rounds w n) w n s (runs_of_mixed s xs)) (mixed-left s xs) (claim w n s (runs_of_mixed s xs) given)
 
@@ -151,16 +152,15 @@ drive-adds w n s last lives =
     (λ e. rw e (omega (arith, drive-stays w n s last (eqb-false _ 0 e))))
 
 -- within so many rounds
-module _ (rounds : ℕ → ℕ → ℕ) (claim : Detection rounds) (w : Wiring) (n : ℕ) (s : State) (given : DetectionPremises w n s []) where
+module _ (rounds : Wiring → ℕ → ℕ) (claim : Detection rounds) (w : Wiring) (n : ℕ) (s : State) (given : DetectionPremises w n s []) where
   premises : (lasts : List ℕ) → DetectionPremises w n s (runs_of_drives w n s lasts)
   premises lasts = record {
-    wiring = given.wiring;
     size = given.size;
     long = given.long;
     start = given.start;
     two_live = given.two_live;
     accurate = given.accurate;
-    one_wiring = drives-pass w (is_on w) (λ n s i. eq-eqb w w refl) n s lasts;
+    one_wiring = drives-pass w (is_on w) (λ n s i. same-itself w) n s lasts;
     no_crash = drives-pass w (λ x. not (crashes x)) (λ n s i. refl) n s lasts;
     no_late = drives-pass w (λ x. not (is_late x)) (λ n s i. refl) n s lasts;
   }
@@ -197,11 +197,11 @@ module _ (rounds : ℕ → ℕ → ℕ) (claim : Detection rounds) (w : Wiring) 
       record { detection = c; rounds = count; exact_rows = λ far. c.exact_rows (rw count far) }
 
 -- a claim about lists of runs, of driven plants. That still fewer rounds do not suffice is shown of runs only (crate witness)
-pub driven-detection : (rounds : ℕ → ℕ → ℕ) → Detection rounds → DrivenDetection rounds
+pub driven-detection : (rounds : Wiring → ℕ → ℕ) → Detection rounds → DrivenDetection rounds
 driven-detection rounds claim w n s lasts given = driven rounds claim w n s given lasts
 
 -- and so of the last drive of a list
-last-drive : (rounds : ℕ → ℕ → ℕ) → Detection rounds → (w : Wiring) (n : ℕ) (before : State) (last : ℕ)
+last-drive : (rounds : Wiring → ℕ → ℕ) → Detection rounds → (w : Wiring) (n : ℕ) (before : State) (last : ℕ)
     → DrivenDetectionAfter rounds w n last before (drive w n before last).state
 last-drive rounds claim w n before last s lasts e given =
     rw (after-one-more w n s lasts last, e) at (driven-detection rounds claim w n s (lasts ++ (last ∷ [])) given)

@@ -12,7 +12,6 @@ use Rattle.table.specs.Sizes.{is_size}
 use Rattle.table.specs.Table.{head, stride, cell, status_column, next_column, finished_column}
 use Rattle.table.specs.Table.{tests_column, told_by_column, told_by_none, rounds_ago_column, suspects, live, status}
 use Rattle.table.specs.Rules.{exit_rule, line_rules, table_refusal}
-use Rattle.table.specs.Wiring.{wiring_check}
 use Rattle.std.specs.Prelude.{Ok}
 use Rattle.table.specs.Fresh.{fresh_table}
 use Rattle.lists.proofs.SearchLaws.{every-all}
@@ -62,9 +61,8 @@ module _ (n : ℕ) where
 
   -- it passes refusals 1 to 4
   pub fresh-accepted : (w : Wiring) → is_size n ≡ true → table_refusal w n t ≡ 0
-  fresh-accepted w wired size =
+  fresh-accepted w size =
       accepted-number w n t (record {
-        wired = wired;
         size = size;
         long = fresh-length n;
         lines = every-all (line_rules w n t) n (λ i h. line-holds w n t i (fresh-line w n i h));
@@ -92,8 +90,7 @@ module _ (n : ℕ) where
 
 pub fresh-premises : FreshMeetsPremises
 unfolding all_taken taken_all
-fresh-premises w n rounds tests wired size = record {
-  wiring = wired;
+fresh-premises w n rounds tests size = record {
   size = size;
   long = fresh-length n;
   start = fresh_start n;

@@ -4,7 +4,7 @@ use Rattle.std.specs.Prelude.{Ok, ℕ, suc, ◌+◌, ◌-◌, ◌*◌, ◌/◌, 
 use Rattle.std.specs.Prelude.{List, [], ◌∷◌, ◌++◌, length, if◌then◌else◌, nat_lt, slice_index_or}
 use Rattle.lists.specs.Search.{every}
 use Rattle.table.specs.Sizes.{is_size, dimension}
-use Rattle.table.specs.Wiring.{is_ring, wiring_check}
+use Rattle.table.specs.Wiring.{is_ring}
 use Rattle.table.specs.Fresh.{fresh_table}
 use Rattle.station.specs.Groups.{is_present, width, member}
 use Rattle.table.specs.Table.{table_length, suspects, live}
@@ -70,10 +70,9 @@ count_of w n t = count_by w n (pairs_without_live n t)
 abbrev pub counted_from : Wiring → ℕ → ℕ
 counted_from w enough = if is_ring w then 0 else enough
 
--- Rule Detection conditions: a wiring, a size and a table of its length, at the start of a round, two live boards at least, no live one suspecting a
+-- Rule Detection conditions: a size and a table of its length, at the start of a round, two live boards at least, no live one suspecting a
 -- live one; any tally, any list of runs, without crashes and late replies of live boards
 pub record DetectionPremises (w : Wiring) (n : ℕ) (s : State) (calls : List Call) : Type 0 where
-  pub wiring : wiring_check w ≡ Ok tt
   pub size : is_size n ≡ true
   pub long : length s.table ≡ table_length n
   pub start : at_start n s.table ≡ true
@@ -109,12 +108,12 @@ DetectionAt w n enough =
     (s : State) (calls : List Call) → DetectionPremises w n s calls → DetectionConclusion enough w n s calls (after_runs s calls)
 
 -- Rule Worst case, and the greater bounds: the claim on each wiring at all sizes, within so many rounds by wiring and size
-abbrev pub Detection : (ℕ → ℕ → ℕ) → Type 0
+abbrev pub Detection : (Wiring → ℕ → ℕ) → Type 0
 Detection rounds = (w : Wiring) (n : ℕ) → DetectionAt w n (rounds w n)
 
 -- the same of one run, `c`, from `before` to `after`: wherever it stands behind other runs, the claim about the whole list with it holds of
 -- the state that it leaves
-abbrev pub DetectionAfter : (ℕ → ℕ → ℕ) → Call → State → State → Type 0
+abbrev pub DetectionAfter : (Wiring → ℕ → ℕ) → Call → State → State → Type 0
 DetectionAfter rounds c before after =
     (w : Wiring) (n : ℕ) (s : State) (calls : List Call) → after_runs s calls ≡ before → DetectionPremises w n s (calls ++ (c ∷ []))
     → DetectionConclusion (rounds w n) w n s (calls ++ (c ∷ [])) after

@@ -40,7 +40,7 @@ DriveIsTurns = (w : Wiring) (n : ℕ) (s : State) (last : ℕ) → TurnByTurn w 
 -- a list that mixes runs and drives; a drive has any wiring, any size and any last number
 pub data RunOrDrive : Type 0 where
   a_run : Call → RunOrDrive
-  a_drive : ℕ → ℕ → ℕ → RunOrDrive
+  a_drive : Wiring → ℕ → ℕ → RunOrDrive
 
 -- table and tally after one of them, and the runs that it is
 abbrev pub after_one : State → RunOrDrive → State
@@ -61,7 +61,7 @@ runs_of_mixed s [] = []
 runs_of_mixed s (x ∷ xs) = runs_of_one s x ++ runs_of_mixed (after_one s x) xs
 
 -- Rule Detection by drives: detection of such a list, within so many rounds by wiring and size, of the runs that it is
-abbrev pub MixedDetection : (ℕ → ℕ → ℕ) → Type 0
+abbrev pub MixedDetection : (Wiring → ℕ → ℕ) → Type 0
 MixedDetection rounds =
     (w : Wiring) (n : ℕ) (s : State) (xs : List RunOrDrive) → DetectionPremises w n s (runs_of_mixed s xs)
     → DetectionConclusion (rounds w n) w n s (runs_of_mixed s xs) (after_mixed s xs)
@@ -89,7 +89,7 @@ pub record DrivenDetectionConclusion (enough : ℕ) (w : Wiring) (n : ℕ) (s : 
 
 -- Rule Detection by drives: the claim, within so many rounds by wiring and size. It supposes the detection conditions on the table: those of no
 -- run at all. Drives have no crash and no late reply
-abbrev pub DrivenDetection : (ℕ → ℕ → ℕ) → Type 0
+abbrev pub DrivenDetection : (Wiring → ℕ → ℕ) → Type 0
 DrivenDetection rounds =
     (w : Wiring) (n : ℕ) (s : State) (lasts : List ℕ) → DetectionPremises w n s []
     → DrivenDetectionConclusion (rounds w n) w n s lasts (after_drives w n s lasts)
@@ -100,7 +100,7 @@ DrivenDetectionInSquare = DrivenDetection square_rounds
 
 -- the same of one drive, from `before` to `after`: wherever it stands behind other drives, the claim about the whole list with it holds of
 -- the state that it leaves
-abbrev pub DrivenDetectionAfter : (ℕ → ℕ → ℕ) → Wiring → ℕ → ℕ → State → State → Type 0
+abbrev pub DrivenDetectionAfter : (Wiring → ℕ → ℕ) → Wiring → ℕ → ℕ → State → State → Type 0
 DrivenDetectionAfter rounds w n last before after =
     (s : State) (lasts : List ℕ) → after_drives w n s lasts ≡ before → DetectionPremises w n s []
     → DrivenDetectionConclusion (rounds w n) w n s (lasts ++ (last ∷ [])) after

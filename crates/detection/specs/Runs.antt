@@ -2,6 +2,7 @@
 -- Assumes nothing.
 use Rattle.std.specs.Prelude.{◌≡◌, ℕ, Bool, not, ◌&&◌, List, [], ◌∷◌, ◌++◌, length, if◌then◌else◌, ◌==◌}
 use Rattle.table.specs.Table.{live}
+use Rattle.table.specs.Wiring.{same_wiring}
 use Rattle.table.specs.declared.wiring.Wiring.{Wiring}
 use Rattle.plant.specs.Turn.{kind_turn, kind_late}
 use Rattle.plant.specs.Entry.{Entry, State, is_crash, is_test, entry_refusal, after, tested_of}
@@ -9,7 +10,7 @@ use Rattle.plant.specs.Run.{entries, start_refusal, run}
 
 -- what one run of the list is given anew: its wiring, size, schedule and run sheet, which may be any
 pub record Call : Type 0 where
-  pub wiring : ℕ
+  pub wiring : Wiring
   pub size : ℕ
   pub schedule : List ℕ
   pub sheet : List ℕ
@@ -33,7 +34,7 @@ after_runs s (c ∷ cs) = after_runs (after_run s c) cs
 
 -- a taken entry: the wiring and the size of its run, and table and tally as it found them
 pub record Taken : Type 0 where
-  pub wiring : ℕ
+  pub wiring : Wiring
   pub size : ℕ
   pub before : State
   pub entry : Entry
@@ -85,4 +86,4 @@ is_late x = x.entry.kind == kind_late && taken_test x && live x.size x.before.ta
 
 -- a taken entry of a run on the wiring w
 abbrev pub is_on : Wiring → Taken → Bool
-is_on w x = x.wiring == w
+is_on w x = same_wiring x.wiring w

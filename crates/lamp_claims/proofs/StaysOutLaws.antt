@@ -39,7 +39,6 @@ out-meets-premises w n s calls given =
     let out = out-is w n s.table given.out in
     let ok = table_ok w n s.table tt out.0 in
     record {
-      wiring = ok.wired;
       size = ok.size;
       long = ok.long;
       start = given.start;
@@ -51,7 +50,7 @@ out-meets-premises w n s calls given =
     }
 
 -- so what is claimed under those holds under these
-pub out-begins-wait : (rounds : ℕ → ℕ → ℕ) → Detection rounds → OutBeginsWait rounds
+pub out-begins-wait : (rounds : Wiring → ℕ → ℕ) → Detection rounds → OutBeginsWait rounds
 out-begins-wait rounds claim w n s calls given = claim w n s calls (out-meets-premises w n s calls given)
 
 -- a chain of taken entries keeps the line rules

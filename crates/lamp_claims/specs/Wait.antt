@@ -27,7 +27,7 @@ abbrev pub OutMeetsPremises : Type 0
 OutMeetsPremises = (w : Wiring) (n : ℕ) (s : State) (calls : List Call) → OutAtStart w n s calls → DetectionPremises w n s calls
 
 -- Rule Lamp begins the wait: so detection holds from there on, within so many rounds by wiring and size
-abbrev pub OutBeginsWait : (ℕ → ℕ → ℕ) → Type 0
+abbrev pub OutBeginsWait : (Wiring → ℕ → ℕ) → Type 0
 OutBeginsWait rounds =
     (w : Wiring) (n : ℕ) (s : State) (calls : List Call) → OutAtStart w n s calls
     → DetectionConclusion (rounds w n) w n s calls (after_runs s calls)

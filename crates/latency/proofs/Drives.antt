@@ -107,7 +107,7 @@ drives-turns w n s (last ∷ lasts) =
 -- a drive from the start of a round: with all its grants but the last the round is still open
 module _ (w : Wiring) (n : ℕ) (s : State) (given : DetectionPremises w n s []) where
   shown : Facts w n s.table
-  shown = facts w n s.table given.wiring given.size given.two_live
+  shown = facts w n s.table given.size given.two_live
 
   inv : Accepted w n s.table → InRound w n (live n s.table) s.table [] s.table
   inv ok = first_round w n s.table ok given.start (trusts w n s.table ok given.accurate)

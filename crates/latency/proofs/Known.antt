@@ -14,7 +14,6 @@ use lib.ListN.{length, get_or}
 use Rattle.lists.proofs.BoolLaws.{by_bool}
 use Rattle.lists.proofs.SearchLaws.{both}
 use Rattle.table.specs.Sizes.{is_size}
-use Rattle.table.specs.Wiring.{wiring_check}
 use Rattle.table.specs.Table.{live}
 use Rattle.table.specs.Rules.{round_over}
 use Rattle.table.specs.Properties.{live_count}

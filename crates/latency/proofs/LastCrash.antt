@@ -19,7 +19,6 @@ use Rattle.slots.proofs.Counts.{sum-le}
 use Rattle.table.specs.Table.{head, cell, status_column, next_column, finished_column, tests_column, status_crashed}
 use Rattle.table.specs.Table.{next_distance, finished, tests_made, suspects, live}
 use Rattle.table.specs.Sizes.{is_size}
-use Rattle.table.specs.Wiring.{wiring_check}
 use Rattle.table.specs.Rules.{round_over}
 use Rattle.table.specs.Properties.{live_count}
 use Rattle.table.proofs.Accepting.{Accepted}
@@ -258,7 +257,7 @@ module _ (w : Wiring) (n : ℕ) (B : TestsBound w n) (s : State) (calls : List C
       let then = steady-after w n B x.before x.entry ok part.taken in_time now st in
       let plain = plain-at w n t (accepted-kept w n x.before x.entry ok part.taken) then.clean in
       let enough : turns_from_crash w n t ≤ length rest = rw (← left) far in
-      rw left (known-since w n B t two given.wiring given.size behind plain then.fits
+      rw left (known-since w n B t two given.size behind plain then.fits
       (record { no_crash = given.no_more; no_late = late.2 }) (omega (arith, enough)))
 
   from-crash : AllKnow n (table_after x) (after_runs s calls).table

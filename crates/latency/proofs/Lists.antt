@@ -34,7 +34,7 @@ module _ (w : Wiring) (n : ℕ) (s : State) (calls : List Call) (given : Detecti
   inv ok = first_round w n s.table ok given.start (trusts w n s.table ok given.accurate)
 
   shown : Facts w n s.table
-  shown = facts w n s.table given.wiring given.size given.two_live
+  shown = facts w n s.table given.size given.two_live
 
   rounds-in : (k : ℕ) → k ≤ length (rounds_of s calls).closed → RoundWithin w n s.table (round_at s calls k)
   unfolding cut count_taken

@@ -2,7 +2,6 @@
 -- Assumes nothing.
 use Rattle.std.specs.Prelude.{◌≡◌, Ok, true, not, List, [], ◌∷◌, ◌++◌, ℕ, ◌+◌, ◌*◌, ◌≤◌, length}
 use Rattle.table.specs.Sizes.{is_size}
-use Rattle.table.specs.Wiring.{wiring_check}
 use Rattle.table.specs.Table.{table_length}
 use Rattle.table.specs.Rules.{table_refusal}
 use Rattle.table.specs.Properties.{at_start, live_count, none_suspected}
@@ -47,7 +46,6 @@ turns_from_crash w n t = turns_per_round w n t + turns_until_known w n t
 -- the detection conditions, but with crashes, of which x is the last: `before` are the taken entries before it and `rest` those after it. Two
 -- boards at least are live after it
 pub record LastCrash (w : Wiring) (n : ℕ) (s : State) (calls : List Call) (before : List Taken) (x : Taken) (rest : List Taken) : Type 0 where
-  pub wiring : wiring_check w ≡ Ok tt
   pub size : is_size n ≡ true
   pub long : length s.table ≡ table_length n
   pub start : at_start n s.table ≡ true

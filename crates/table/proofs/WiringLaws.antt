@@ -1,12 +1,23 @@
--- The end distance of each wiring.
+-- When two wirings are the same, and the end distance of each.
 -- Assumes nothing.
 use Rattle.std.proofs.Common.{◌≡◌, ℕ, true, ◌≤◌, ◌<◌, arith, refl}
 use Rattle.lists.proofs.BoolLaws.{choice}
 use Rattle.table.specs.declared.wiring.Wiring.{Wiring}
 use Rattle.table.specs.Sizes.{is_size, distances}
-use Rattle.table.specs.Wiring.{is_ring, end_distance}
+use Rattle.table.specs.Wiring.{is_ring, same_wiring, end_distance}
 use Rattle.table.proofs.SizeLaws.{size-bounds, distances-pos, distances_top, size-distances}
-use Rattle.table.specs.declared.wiring.Wiring.TheVariants.{Cube}
+use Rattle.table.specs.declared.wiring.Wiring.TheVariants.{Cube, Ring}
+
+-- two that are the same
+pub same-itself : (w : Wiring) → same_wiring w w ≡ true
+same-itself Cube = refl
+same-itself Ring = refl
+
+pub same-is : (v w : Wiring) → same_wiring v w ≡ true → v ≡ w
+same-is Cube Cube e = refl
+same-is Ring Ring e = refl
+same-is Cube Ring e = cc
+same-is Ring Cube e = cc
 
 -- the end distance of the cube
 pub end-cube : (n : ℕ) → end_distance Cube n ≡ distances n

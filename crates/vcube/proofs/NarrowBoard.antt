@@ -12,7 +12,6 @@ use Rattle.lists.specs.declared.refusal.Refusal.TheVariants.{SizeOutOfRange}
 use Rattle.lists.specs.Refusal.{ensure, number_of_result}
 use Rattle.lists.proofs.RefusalLaws.{and_ok, ensure_ok}
 use Rattle.table.specs.Sizes.{is_size}
-use Rattle.table.specs.Wiring.{wiring_check}
 use Rattle.table.specs.declared.wiring.Wiring.{Wiring}
 use Rattle.station.specs.declared.outcome.Outcome.{Outcome}
 use Rattle.station.specs.Outcome.{outcome_byte}

@@ -11,7 +11,7 @@ use Rattle.std.specs.Prelude.{Ok}
 use Rattle.lists.specs.Search.{list_of}
 use Rattle.lists.proofs.SearchLaws.{every-all, list_of-length, list_of-at}
 use Rattle.table.specs.Sizes.{is_size}
-use Rattle.table.specs.Wiring.{wiring_check, end_distance}
+use Rattle.table.specs.Wiring.{end_distance}
 use Rattle.table.specs.Table.{stride, table_length, line_start, cell, next_column, finished_column, tests_column, next_distance, finished, tests_made}
 use Rattle.table.specs.Rules.{line_rules}
 use Rattle.table.specs.Properties.{line_at_start, at_start}

@@ -180,7 +180,6 @@ module _ (n N : ℕ) (p : Slow Cube n) (Size : is_size N ≡ true) (low : n ≤ 
   given : DetectionPremises Cube N w []
   unfolding at_start live_count none_suspected all_taken taken_all
   given = record {
-    wiring = refl;
     size = Size;
     long = begun.long;
     start = begun-start Cube N u begun;

@@ -94,7 +94,6 @@ slow-plant n dead i j begun turns few a =
         first = s;
         ok = eqb-true _ 0 checks.1;
         premises = record {
-          wiring = refl;
           size = sized.0;
           long = eqb-true _ _ sized.1;
           start = starts.1;

@@ -25,6 +25,7 @@ use Rattle.detection.proofs.TakenLaws.{taken_at}
 use Rattle.detection.proofs.DetectionClaim.{detection-in-worst-case}
 use Rattle.detection.proofs.OneTurn.{one_left, runs_append, one_passes}
 use Rattle.witness.specs.WorstCase.{WorstCaseAt}
+use Rattle.table.proofs.WiringLaws.{same-itself}
 
 -- turns of the boards listed, each taken, from a state to a state
 pub data Goes (w : Wiring) (n : ℕ) : State → List ℕ → State → Type 0 where
@@ -80,13 +81,12 @@ slow-worst-case w n p enough exact = by_cases (dec_lt enough (worst_rounds w n))
 
     given : DetectionPremises w n p.first calls
     given = record {
-      wiring = p.premises.wiring;
       size = p.premises.size;
       long = p.premises.long;
       start = p.premises.start;
       two_live = p.premises.two_live;
       accurate = p.premises.accurate;
-      one_wiring = turns-pass w (is_on w) (λ n s i. eq-eqb w w refl) n p.first p.turns;
+      one_wiring = turns-pass w (is_on w) (λ n s i. same-itself w) n p.first p.turns;
       no_crash = turns-pass w (λ x. not (crashes x)) (λ n s i. refl) n p.first p.turns;
       no_late = turns-pass w (λ x. not (is_late x)) (λ n s i. refl) n p.first p.turns;
     }

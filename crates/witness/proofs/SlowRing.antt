@@ -242,7 +242,6 @@ module _ (n : ℕ) (size : is_size n ≡ true) (three : 3 ≤ n) where
   given : DetectionPremises Ring n first []
   unfolding at_start live_count none_suspected all_taken taken_all
   given = record {
-    wiring = refl;
     size = size;
     long = begun.long;
     start = begun-start Ring n t begun;

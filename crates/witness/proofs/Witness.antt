@@ -8,7 +8,6 @@ use native.Mathlib.Omega.{arith}
 use lib.ListN.{length}
 use Rattle.std.specs.Prelude.{Ok}
 use Rattle.table.specs.Sizes.{is_size}
-use Rattle.table.specs.Wiring.{wiring_check}
 use Rattle.table.specs.Table.{table_length}
 use Rattle.table.specs.Properties.{at_start, live_count, none_suspected}
 use Rattle.table.specs.declared.wiring.Wiring.{Wiring}
@@ -25,7 +24,6 @@ met : {w : Wiring} {n : ℕ} {s : State} {calls : List Call} → is_size n ≡ t
     → all_taken (λ x. not (crashes x)) (taken_all s calls) ≡ true → all_taken (λ x. not (is_late x)) (taken_all s calls) ≡ true
     → DetectionPremises w n s calls
 met wiring size long start two accurate one none never = record {
-  wiring = wiring;
   size = size;
   long = long;
   start = start;
