@@ -212,7 +212,7 @@ module _ (w : Wiring) (n : ℕ) (t : List ℕ) (kind i : ℕ) (z : table_refusal
   unfolding live_check
   row-sent o =
       let lines = turn_lines w n t kind i (acc.long, accepted-line w n t acc) h going in
-      let ok = line-ok w n u i acc.wired acc.size lines.0 h (line-holds w n u i (lines.1 i h)) in
+      let ok = line-ok w n u i acc.size lines.0 h (line-holds w n u i (lines.1 i h)) in
       row-ok w n i (line n u i) (rw (ok, still-live o))
 
   pub exchanged-leaves : (k : ℕ) → k < n → k ≡ j → turn_outcome w n t kind i ≡ outcome_exchanged

@@ -48,10 +48,10 @@ rules-of w n i l e = ensure_ok _ _ _ (and_ok _ _ tt e).1
 pub line-ok : (w : Wiring) (n : ℕ) (t : List ℕ) (i : ℕ) → is_size n ≡ true → length t ≡ table_length n → i < n
     → line_rules w n t i ≡ true → line_check w n i (line n t i) ≡ Ok tt
 unfolding line_check place_check
-line-ok w n t i wired size long h l =
-    rw (wired, size, lt-ltb i n h, eq-eqb (length (line n t i)) (stride n) (line-length n t i long h), rules-same w n t i h, l)
+line-ok w n t i size long h l =
+    rw (size, lt-ltb i n h, eq-eqb (length (line n t i)) (stride n) (line-length n t i long h), rules-same w n t i h, l)
 
 pub lines-of-tables : LinesOfTables
 lines-of-tables w n t i z h =
     let a = accepted w n t z in
-    line-ok w n t i a.wired a.size a.long h (every-at (line_rules w n t) n i a.lines h)
+    line-ok w n t i a.size a.long h (every-at (line_rules w n t) n i a.lines h)

@@ -163,7 +163,7 @@ closed-status (Err r) l = refl
 pub closing : (w : Wiring) (n : ℕ) (t : List ℕ) (b : Lines) → Hold n t b → is_size n ≡ true → length t ≡ table_length n
     → ((k : ℕ) → k < n → Line w n t k) → Hold n (after_round n t) (after_closing w n b)
 unfolding after_round after_closing
-closing w n t b hold wired size long lines =
+closing w n t b hold size long lines =
     by_bool (round_over n t) (λ o. rw (over-same n t b hold, o) closed) (λ o. rw (over-same n t b hold, o) hold)
   where
     was : (k : ℕ) → status n (reset_lines n t) k ≡ status n t k
@@ -174,7 +174,7 @@ closing w n t b hold wired size long lines =
       statuses = λ k hk. closed-status (line_check w n k (b k)) (b k) ∙ (hold.statuses k hk ∙ sym (was k));
       live_lines = λ k hk l.
           let e : b k ≡ line n t k = hold.live_lines k hk (rw (was k) at l) in
-          rw (e, line-ok w n t k wired size long hk (line-holds w n t k (lines k hk))) (sym (closed-line n t k long hk));
+          rw (e, line-ok w n t k size long hk (line-holds w n t k (lines k hk))) (sym (closed-line n t k long hk));
     }
 
 -- an entry that is taken
@@ -196,7 +196,7 @@ module _ (w : Wiring) (n : ℕ) (s : State) (b : Lines) (hold : Hold n s.table b
   unfolding after after_entry
   entry-held =
       let lines = acted-lines w n s e a taken in
-      closing w n (acted w n s.table e) (after_act w n b e) acting a.wired a.size lines.0 lines.1
+      closing w n (acted w n s.table e) (after_act w n b e) acting a.size lines.0 lines.1
 
   -- and its line of the sheet
   pub entry-shown : sheet_line w n s e ≡ entry_line w n b e

@@ -38,7 +38,6 @@ module _ (n : ℕ) (b : Lines) where
 pub boards-make-a-table : BoardsMakeATable
 boards-make-a-table w n b some through going = (
   accepted-number w n t (record {
-    wired = (facts 0 some).wired;
     size = (facts 0 some).size;
     long = table-length n b;
     lines = every-all (line_rules w n t) n (λ k hk. sym (rules-same w n t k hk) ∙ rw (same k hk) (rules-of w n k (b k) (through k hk)));

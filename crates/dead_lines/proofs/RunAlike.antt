@@ -24,7 +24,7 @@ use Rattle.plant.proofs.RulesKept.{Takes, entry-facts, run-keeps-rules}
 use Rattle.plant.proofs.RunLaws.{start-facts}
 use Rattle.detection.specs.Runs.{Call, after_run, after_runs}
 use Rattle.detection.proofs.Chain.{size-unique}
-use Rattle.dead_lines.specs.Alike.{Alike, StayAlike, IsOn, RunOfAlike, answers_of_runs, RunsOfAlike}
+use Rattle.dead_lines.specs.Alike.{Alike, StayAlike, RunOfAlike, answers_of_runs, RunsOfAlike}
 use Rattle.dead_lines.proofs.Writes.{Twins, Step, still, then, twins-after, line-after, closing}
 use Rattle.dead_lines.proofs.TurnAlike.{live-same, over-same, acted-step, test-same, tested-same, outcome-of-same}
 
@@ -139,44 +139,42 @@ module _ (w : Wiring) (n : ℕ) (s r : State) (a : Alike w n s r) where
   size-is m fits = size-unique m n (fits ∙ alike-both.tables.other_long)
 
   -- a call on this wiring, of any size, finds the same of refusals 1 to 4: one of another size by the length alone
-  pub tables-checked : (v m : ℕ) → IsOn w v → table_check v m s.table ≡ table_check v m r.table
+  pub tables-checked : (m : ℕ) → table_check w m s.table ≡ table_check w m r.table
   unfolding table_check
-  tables-checked v m on =
-      and_same (wiring_check v) _ _
-      (λ known.
-      rw (on known, same-length)
+  tables-checked m =
+      rw same-length
       (and_same (shape_check m (length r.table)) _ _
       (λ ok.
       let p = accepted w n s.table a.valid in
       let q = accepted w n r.table a.other_valid in
-      rw (size-is m (sym (shape_ok m (length r.table) tt ok).1), p.lines, p.unclosed, q.lines, q.unclosed))))
+      rw (size-is m (sym (shape_ok m (length r.table) tt ok).1), p.lines, p.unclosed, q.lines, q.unclosed)))
 
-  started : (v m x y : ℕ) → IsOn w v → start_check v m s.table x y ≡ start_check v m r.table x y
+  started : (m x y : ℕ) → start_check w m s.table x y ≡ start_check w m r.table x y
   unfolding start_check
-  started v m x y on = rw (tables-checked v m on)
+  started m x y = rw (tables-checked m)
 
-  run-same : (v m : ℕ) (schedule sheet : List ℕ) → IsOn w v → SameFrom n s r (run v m s schedule sheet) (run v m r schedule sheet)
+  run-same : (m : ℕ) (schedule sheet : List ℕ) → SameFrom n s r (run w m s schedule sheet) (run w m r schedule sheet)
   unfolding run
-  run-same v m schedule sheet on =
-      by_bool (eqb (start_refusal v m s.table (length schedule) (length sheet)) 0)
+  run-same m schedule sheet =
+      by_bool (eqb (start_refusal w m s.table (length schedule) (length sheet)) 0)
       (λ t.
-      let fits = (start-facts v m s.table (length schedule) (length sheet) (eqb-true _ 0 t)).0 in
-      rw (← started v m (length schedule) (length sheet) on, t, on fits.wired, size-is m (sym fits.long ∙ same-length))
+      let fits = (start-facts w m s.table (length schedule) (length sheet) (eqb-true _ 0 t)).0 in
+      rw (← started m (length schedule) (length sheet), t, size-is m (sym fits.long ∙ same-length))
       (run-on w n 0 s r sheet (entries schedule) alike-both))
       (λ t.
-      rw (← started v m (length schedule) (length sheet) on, t)
-      (stopped n s r alike-both (start_refusal v m s.table (length schedule) (length sheet)) 0 sheet))
+      rw (← started m (length schedule) (length sheet), t)
+      (stopped n s r alike-both (start_refusal w m s.table (length schedule) (length sheet)) 0 sheet))
 
 -- a run of any size keeps the rules of size n
-still-valid : (w : Wiring) (n : ℕ) (s : State) → table_refusal w n s.table ≡ 0 → (v m : ℕ) (schedule sheet : List ℕ) → IsOn w v
-    → table_refusal w n (run v m s schedule sheet).state.table ≡ 0
+still-valid : (w : Wiring) (n : ℕ) (s : State) → table_refusal w n s.table ≡ 0 → (m : ℕ) (schedule sheet : List ℕ)
+    → table_refusal w n (run w m s schedule sheet).state.table ≡ 0
 unfolding run
-still-valid w n s z v m schedule sheet on =
-    by_bool (eqb (start_refusal v m s.table (length schedule) (length sheet)) 0)
+still-valid w n s z m schedule sheet =
+    by_bool (eqb (start_refusal w m s.table (length schedule) (length sheet)) 0)
     (λ t.
-    let fits = (start-facts v m s.table (length schedule) (length sheet) (eqb-true _ 0 t)).0 in
+    let fits = (start-facts w m s.table (length schedule) (length sheet) (eqb-true _ 0 t)).0 in
     let same : m ≡ n = size-unique m n (sym fits.long ∙ (accepted w n s.table z).long) in
-    rw (on fits.wired, same) (run-keeps-rules w n s schedule sheet z))
+    rw same (run-keeps-rules w n s schedule sheet z))
     (λ t. rw t z)
 
 -- what stays alike
@@ -197,20 +195,25 @@ stay-then one two = record { alike = two.alike; lines = λ i h line. two.lines i
 
 -- a run, an end in itself
 pub run-of-alike : RunOfAlike
-run-of-alike w n s r a v m schedule sheet on =
-    let f = run-same w n s r a v m schedule sheet on in
+run-of-alike w n s r a m schedule sheet =
+    let f = run-same w n s r a m schedule sheet in
     record {
       answer = rw (f.number, f.taken, f.rounds, f.tests, f.sheet);
       left =
-          stays w n s r _ _ (alike-both w n s r a) f.step (still-valid w n s a.valid v m schedule sheet on)
-          (still-valid w n r a.other_valid v m schedule sheet on) f.rounds f.tests;
+          stays w n s r _ _ (alike-both w n s r a) f.step (still-valid w n s a.valid m schedule sheet)
+          (still-valid w n r a.other_valid m schedule sheet) f.rounds f.tests;
     }
+
+-- a run of a list
+pub call-of-alike : (w : Wiring) (n : ℕ) (s r : State) → Alike w n s r → (c : Call) → c.wiring ≡ w
+    → SameRun w n s r (run c.wiring c.size s c.schedule c.sheet) (run c.wiring c.size r c.schedule c.sheet)
+call-of-alike w n s r a c on = rw on (run-of-alike w n s r a c.size c.schedule c.sheet)
 
 -- a list of runs, an end in itself
 pub runs-of-alike : RunsOfAlike
 unfolding answers_of_runs after_runs
 runs-of-alike w n s r a [] on = (refl, stay-still w n s r a)
 runs-of-alike w n s r a (c ∷ cs) on =
-    let one = run-of-alike w n s r a c.wiring c.size c.schedule c.sheet (All-head (λ (c : Call). IsOn w c.wiring) c cs on) in
-    let rest = runs-of-alike w n (after_run s c) (after_run r c) one.left.alike cs (All-tail (λ (c : Call). IsOn w c.wiring) c cs on) in
+    let one = call-of-alike w n s r a c (All-head (λ (c : Call). c.wiring ≡ w) c cs on) in
+    let rest = runs-of-alike w n (after_run s c) (after_run r c) one.left.alike cs (All-tail (λ (c : Call). c.wiring ≡ w) c cs on) in
     (ap₂ ◌∷◌ one.answer rest.0, stay-then one.left rest.1)

@@ -50,25 +50,21 @@ pub record SameDrive (w : Wiring) (n : ℕ) (s r : State) (a b : DriveResult) : 
   pub answer : drive_answer a ≡ drive_answer b
   pub left : StayAlike w n s r a.state b.state
 
--- a run, a grant or a drive with wiring number v is on wiring w, if refusal 24 lets it through
-abbrev pub IsOn : Wiring → ℕ → Type 0
-IsOn w v = v ≡ w
-
 -- Rule Dead lines, of a run on that wiring: of any size, schedule and run sheet. One of another size than the tables' is refused
 abbrev pub RunOfAlike : Type 0
 RunOfAlike =
-    (w : Wiring) (n : ℕ) (s r : State) → Alike w n s r → (v m : ℕ) (schedule sheet : List ℕ) → IsOn w v
-    → SameRun w n s r (run v m s schedule sheet) (run v m r schedule sheet)
+    (w : Wiring) (n : ℕ) (s r : State) → Alike w n s r → (m : ℕ) (schedule sheet : List ℕ)
+    → SameRun w n s r (run w m s schedule sheet) (run w m r schedule sheet)
 
 -- Rule Dead lines, of a grant: the same station, or the same refusal
 abbrev pub GrantOfAlike : Type 0
 GrantOfAlike =
-    (w : Wiring) (n : ℕ) (s r : State) → Alike w n s r → (v m last : ℕ) → IsOn w v → grant_answer v m s.table last ≡ grant_answer v m r.table last
+    (w : Wiring) (n : ℕ) (s r : State) → Alike w n s r → (m last : ℕ) → grant_answer w m s.table last ≡ grant_answer w m r.table last
 
 -- Rule Dead lines, of a drive
 abbrev pub DriveOfAlike : Type 0
 DriveOfAlike =
-    (w : Wiring) (n : ℕ) (s r : State) → Alike w n s r → (v m last : ℕ) → IsOn w v → SameDrive w n s r (drive v m s last) (drive v m r last)
+    (w : Wiring) (n : ℕ) (s r : State) → Alike w n s r → (m last : ℕ) → SameDrive w n s r (drive w m s last) (drive w m r last)
 
 -- the answers of a list of runs, one behind the other, and of one that mixes runs and drives
 unfoldable pub answers_of_runs : State → List Call → List Answer
@@ -83,17 +79,17 @@ unfoldable pub answers_of : State → List RunOrDrive → List Answer
 answers_of s [] = []
 answers_of s (x ∷ xs) = answer_of s x ∷ answers_of (after_one s x) xs
 
--- the wiring number of one of a mixed list
-abbrev pub wiring_given : RunOrDrive → ℕ
+-- the wiring of one of a mixed list
+abbrev pub wiring_given : RunOrDrive → Wiring
 wiring_given (a_run c) = c.wiring
 wiring_given (a_drive w n last) = w
 
 -- the list does not mix wirings
 abbrev pub RunsOn : Wiring → List Call → Type 0
-RunsOn w calls = All (λ c. IsOn w c.wiring) calls
+RunsOn w calls = All (λ c. c.wiring ≡ w) calls
 
 abbrev pub MixedOn : Wiring → List RunOrDrive → Type 0
-MixedOn w xs = All (λ x. IsOn w (wiring_given x)) xs
+MixedOn w xs = All (λ x. wiring_given x ≡ w) xs
 
 -- Rule Dead lines, of a list of runs
 abbrev pub RunsOfAlike : Type 0

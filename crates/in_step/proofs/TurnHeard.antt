@@ -345,7 +345,7 @@ module _ (w : Wiring) (n : ℕ) (s : State) (a : Accepted w n s.table) (e : Entr
     line-after l made =
         let u : List ℕ = acted w n t e in
         let lines = acted-lines w n s e a taken in
-        let ok : line_check w n k (line n u k) ≡ Ok tt = line-ok w n u k a.wired a.size lines.0 hk (line-holds w n u k (lines.1 k hk)) in
+        let ok : line_check w n k (line n u k) ≡ Ok tt = line-ok w n u k a.size lines.0 hk (line-holds w n u k (lines.1 k hk)) in
         by_bool (round_over n u)
         (λ o. rw (o, line-made l made, ok) (sym (boards-close n u lines.0 k hk)))
         (λ o. rw o (line-made l made))

@@ -26,7 +26,7 @@ use Rattle.detection.specs.Driven.{runs_of_mixed}
 use Rattle.detection.proofs.Chain.{WiredChain, ends, next, on-wiring, chain-all, chain_first}
 use Rattle.detection.proofs.TurnEffect.{Plain}
 use Rattle.detection.proofs.RoundKnowledge.{RoundKnowledge}
-use Rattle.detection.proofs.DetectionClaim.{rounds-from, ring-of, on-each}
+use Rattle.detection.proofs.DetectionClaim.{rounds-from, ring-of}
 use Rattle.detection.proofs.Cube.{cube}
 use Rattle.detection.proofs.DrivenDetection.{mixed-left}
 use Rattle.lamp.specs.Doubt.{doubt_lamp}
@@ -95,9 +95,8 @@ module _ (w : Wiring) (n : ℕ) (s : State) (calls : List Call) (given : Detecti
           out ∙ rw (check-ok w n s.table ok) refl
 
 pub stays-out : StaysOut
-stays-out w n s calls given =
-    on-each (λ (w : Wiring). DetectionPremises w n s calls → doubt_lamp w n (after_runs s calls).table ≡ (table_check w n s.table and Ok None)) w
-    given.wiring (λ g. stays-by Cube n s calls g (cube n s.table g.size)) (λ g. stays-by Ring n s calls g (ring-of n s calls g)) given
+stays-out Cube n s calls given = stays-by Cube n s calls given (cube n s.table given.size)
+stays-out Ring n s calls given = stays-by Ring n s calls given (ring-of n s calls given)
 
 pub mixed-stays-out : MixedStaysOut
 mixed-stays-out w n s xs given = rw (← mixed-left s xs) (stays-out w n s (runs_of_mixed s xs) given)

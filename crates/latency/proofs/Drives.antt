@@ -155,4 +155,4 @@ drives-known-from-any-moment w n s lasts given far =
     let ok = accepted w n s.table given.accepted in
     let t = drives-turns w n s lasts in
     let plain = plain-at w n s.table ok (trusts w n s.table ok given.accurate) in
-    known-from-now w n s.table ok.wired ok.size given.two_live t.chain plain t.quiet (omega (arith, t.long))
+    known-from-now w n s.table ok.size given.two_live t.chain plain t.quiet (omega (arith, t.long))

@@ -33,7 +33,7 @@ use Rattle.detection.proofs.Chain.{WiredChain, ends, next}
 use Rattle.detection.proofs.TurnEffect.{Plain, Company}
 use Rattle.detection.proofs.RoundKnowledge.{InRound, restart, TurnTaken, RoundKnowledge}
 use Rattle.detection.proofs.Course.{taken-turn, course}
-use Rattle.detection.proofs.DetectionClaim.{company-of, someone, on-each}
+use Rattle.detection.proofs.DetectionClaim.{company-of, someone}
 use Rattle.latency.specs.Bound.{turns_per_round, turns_until_known, RoundWithin}
 use Rattle.detection.proofs.Cube.{cube}
 use Rattle.detection.proofs.RingKnowledge.{ring}
@@ -176,19 +176,14 @@ on-the-ring n size = ring-tests Ring n refl (omega (arith, size-bounds n size)) 
 
 -- on each wiring
 pub facts : (w : Wiring) (n : ℕ) (T : List ℕ) → is_size n ≡ true → 2 ≤ live_count n T → Facts w n T
-facts w n T wired size two = on-each (λ (w : Wiring). Facts w n T) w wired on-cube on-ring
-  where
-    on-cube : Facts Cube n T
-    on-cube = facts-by Cube n T size two (cube n T size) (cube-tests n size) (omega arith)
-
-    on-ring : Facts Ring n T
-    on-ring =
-        let z = someone n T (omega (arith, two)) in
-        let K = ring Ring n (live n T) refl (omega (arith, size-bounds n size)) (company-of n T two) z.0 z.1 z.2 in
-        facts-by Ring n T size two K (on-the-ring n size) (omega arith)
+facts Cube n T size two = facts-by Cube n T size two (cube n T size) (cube-tests n size) (omega arith)
+facts Ring n T size two =
+    let z = someone n T (omega (arith, two)) in
+    let K = ring Ring n (live n T) refl (omega (arith, size-bounds n size)) (company-of n T two) z.0 z.1 z.2 in
+    facts-by Ring n T size two K (on-the-ring n size) (omega arith)
 
 -- from any moment on, of which n·n bounds the turns that are left
-module _ (w : Wiring) (n : ℕ) (T : List ℕ) (wired : wiring_check w ≡ Ok tt) (size : is_size n ≡ true) (two : 2 ≤ live_count n T) where
+module _ (w : Wiring) (n : ℕ) (T : List ℕ) (size : is_size n ≡ true) (two : 2 ≤ live_count n T) where
   -- a turn leaves fewer
   left-less : (s : State) (e : Entry) → Accepted w n s.table → Plain w n (live n T) s.table → TurnTaken w n (live n T) s e (acted w n s.table e)
       → Unit {0}
@@ -202,7 +197,7 @@ module _ (w : Wiring) (n : ℕ) (T : List ℕ) (wired : wiring_check w ≡ Ok tt
   pub known-from-now : {s s' : State} {xs : List Taken} → WiredChain w n s xs s' → Plain w n (live n T) s.table → Quiet xs
       → n * n + turns_until_known w n T ≤ length xs → AllKnow n T s'.table
   known-from-now {s} chain p quiet far =
-      let f = facts w n T wired size two in
+      let f = facts w n T size two in
       let most = all-left-most w n s.table size p.lines in
       let total : ℕ = turns_until_known w n T in
       let started = rest-of-round w n T two (λ _. Unit {0}) (all_left w n) left-less chain p tt quiet total f.some (omega (arith, most)) in

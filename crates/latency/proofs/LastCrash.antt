@@ -36,7 +36,7 @@ use Rattle.detection.proofs.TakenLaws.{taken_at}
 use Rattle.detection.proofs.Chain.{WiredChain, ends, next, on-wiring, chain_first, chain-all}
 use Rattle.detection.proofs.Parts.{Parted, parted}
 use Rattle.detection.proofs.Fates.{was-live}
-use Rattle.detection.proofs.DetectionClaim.{trusts, company-of, plain-at, first_round, on-each}
+use Rattle.detection.proofs.DetectionClaim.{trusts, company-of, plain-at, first_round}
 use Rattle.detection.proofs.Course.{taken-turn}
 use Rattle.detection.proofs.DrivenDetection.{mixed-left}
 use Rattle.detection.specs.Driven.{runs_of_mixed}
@@ -192,8 +192,8 @@ module _ (w : Wiring) (n : ℕ) (B : TestsBound w n) where
 
     known-since : is_size n ≡ true → {s s' : State} {xs : List Taken} → WiredChain w n s xs s' → Plain w n L s.table
         → B.Fits L s.table → Quiet xs → turns_from_crash w n T ≤ length xs → AllKnow n T s'.table
-    known-since wired size chain p fits quiet far =
-        let f = facts w n T wired size two in
+    known-since size chain p fits quiet far =
+        let f = facts w n T size two in
         f.known (rest-of-round w n T two (B.Fits L) left_of left-less chain p fits quiet (turns_until_known w n T) f.some (omega arith)).1
 
 -- what all entries pass, those of each part do
@@ -224,7 +224,7 @@ module _ (w : Wiring) (n : ℕ) (B : TestsBound w n) (s : State) (calls : List C
   wired = each-part (is_on w) given.one_wiring
 
   on : x.wiring ≡ w
-  on = eqb-true x.wiring w wired.1
+  on = same-is x.wiring w wired.1
 
   same : taken_at w n x.before x.entry ≡ x
   same = rw (← on, ← part.size) refl
@@ -269,12 +269,8 @@ module _ (w : Wiring) (n : ℕ) (B : TestsBound w n) (s : State) (calls : List C
 
 -- ends in themselves
 pub known-from-crash : KnownFromCrash
-known-from-crash w n s calls before x rest given far =
-    on-each
-    (λ (w : Wiring). LastCrash w n s calls before x rest → turns_from_crash w n (table_after x) ≤ length rest
-    → AllKnow n (table_after x) (after_runs s calls).table)
-    w given.wiring (from-crash Cube n (cube-tests n given.size) s calls before x rest)
-    (from-crash Ring n (on-the-ring n given.size) s calls before x rest) given far
+known-from-crash Cube n s calls before x rest given far = from-crash Cube n (cube-tests n given.size) s calls before x rest given far
+known-from-crash Ring n s calls before x rest given far = from-crash Ring n (on-the-ring n given.size) s calls before x rest given far
 
 pub mixed-known-from-crash : MixedKnownFromCrash
 mixed-known-from-crash w n s xs before x rest given far =

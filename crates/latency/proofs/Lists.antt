@@ -71,4 +71,4 @@ known-from-any-moment w n s calls given far =
     let chain = on-wiring (chain-all n s calls ok.long) given.one_wiring in
     let plain = plain-at w n s.table ok (trusts w n s.table ok given.accurate) in
     let quiet : Quiet (taken_all s calls) = record { no_crash = given.no_crash; no_late = given.no_late } in
-    known-from-now w n s.table ok.wired ok.size given.two_live chain plain quiet (omega (arith, far))
+    known-from-now w n s.table ok.size given.two_live chain plain quiet (omega (arith, far))

@@ -21,12 +21,12 @@ pub struct Wait {
     pub turns_from_crash: u32,
 }
 
-// The bounds for a table on the wiring with a number: refusals 1 to 4.
+// The bounds for a table on a wiring: refusals 1 to 4.
 #[tactic(auto, unfolding(crate::specs::Wait::wait_answer))]
-pub fn wait_of(wiring: usize, n: usize, table: &[u8]) -> Result<Wait, Refusal>
+pub fn wait_of(wiring: Wiring, n: usize, table: &[u8]) -> Result<Wait, Refusal>
     ensures { result ≡ wait_answer wiring n table.now }
 {
-    let (wiring, table) = Table::checked_by_number(wiring, n, table)?;
+    let table = Table::checked(wiring, n, table)?;
     Ok(wait_on(wiring, &table))
 }
 

@@ -69,8 +69,7 @@ module _ (w : Wiring) (n : ℕ) (t : List ℕ) (b : Begun n t) where
 
   -- where bytes 0, 4 and 5 and the rows obey the rules too
   pub begun-accepted : is_size n ≡ true → ((i : ℕ) → i < n → Line w n t i) → Accepted w n t
-  begun-accepted wired size lines = record {
-    wired = wired;
+  begun-accepted size lines = record {
     size = size;
     long = b.long;
     lines = every-all (line_rules w n t) n (λ i h. line-holds w n t i (lines i h));

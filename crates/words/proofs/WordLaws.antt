@@ -21,7 +21,6 @@ use Rattle.std.specs.Simd.{first_chunks}
 use Rattle.lists.specs.Search.{every}
 use Rattle.words.specs.Words.{is_bit_at, are_bits, eight_zeros}
 use Rattle.lists.proofs.SearchLaws.{both, every-suc, every-at, every-all}
-use Rattle.table.proofs.WiringLaws.{same-is}
 
 -- laws of `every`
 pub every-append : (q : ℕ → Bool) (a b : ℕ) → every q (a + b) ≡ (every q a && every (λ j. q (a + j)) b)
