@@ -24,7 +24,7 @@ use Rattle.plant.proofs.RulesKept.{Takes, entry-facts, run-keeps-rules}
 use Rattle.plant.proofs.RunLaws.{start-facts}
 use Rattle.detection.specs.Runs.{Call, after_run, after_runs}
 use Rattle.detection.proofs.Chain.{size-unique}
-use Rattle.dead_lines.specs.Alike.{Alike, StayAlike, RunOfAlike, answers_of_runs, RunsOfAlike}
+use Rattle.dead_lines.specs.Alike.{Alike, StayAlike, SameRun, RunOfAlike, answers_of_runs, RunsOfAlike}
 use Rattle.dead_lines.proofs.Writes.{Twins, Step, still, then, twins-after, line-after, closing}
 use Rattle.dead_lines.proofs.TurnAlike.{live-same, over-same, acted-step, test-same, tested-same, outcome-of-same}
 

@@ -25,6 +25,7 @@ use Rattle.table.proofs.Accepting.{Accepted}
 use Rattle.table.proofs.CellLaws.{cell_other, TurnCounts}
 use Rattle.table.specs.declared.wiring.Wiring.{Wiring}
 use Rattle.table.specs.declared.wiring.Wiring.TheVariants.{Cube, Ring}
+use Rattle.table.proofs.WiringLaws.{same-is}
 use Rattle.plant.specs.Turn.{makes_test, crash}
 use Rattle.plant.specs.Round.{reset_lines, after_round}
 use Rattle.plant.specs.Entry.{Entry, State, is_crash, entry_refusal, acted, after}

@@ -118,7 +118,7 @@ module _ (n N : ℕ) (p : Slow Cube n) (Size : is_size N ≡ true) (low : n ≤ 
           (λ q. rw q (omega arith))
 
   Ok : Accepted Cube N u
-  Ok = begun-accepted Cube N u begun refl Size line_of
+  Ok = begun-accepted Cube N u begun Size line_of
 
   -- the live boards
   parts : (k : ℕ) → L k ≡ true → (k < n) × (live n t k ≡ true)

@@ -234,7 +234,7 @@ module _ (n : ℕ) (size : is_size n ≡ true) (three : 3 ≤ n) where
   }
 
   ok : Accepted Ring n t
-  ok = begun-accepted Ring n t begun refl size line_of
+  ok = begun-accepted Ring n t begun size line_of
 
   abbrev first : State
   first = state_of t 0 0

@@ -23,7 +23,7 @@ met : {w : Wiring} {n : ℕ} {s : State} {calls : List Call} → is_size n ≡ t
     → at_start n s.table ≡ true → 2 ≤ live_count n s.table → none_suspected n s.table ≡ true → all_taken (is_on w) (taken_all s calls) ≡ true
     → all_taken (λ x. not (crashes x)) (taken_all s calls) ≡ true → all_taken (λ x. not (is_late x)) (taken_all s calls) ≡ true
     → DetectionPremises w n s calls
-met wiring size long start two accurate one none never = record {
+met size long start two accurate one none never = record {
   size = size;
   long = long;
   start = start;
@@ -38,7 +38,7 @@ met wiring size long start two accurate one none never = record {
 pub witness : FourBoards
 unfolding whole_list boards turns_of calls
 witness = record {
-  premises = met refl refl refl refl (omega arith) refl refl refl refl;
+  premises = met refl refl refl (omega arith) refl refl refl refl;
   closed_tests = refl;
   open_tests = refl;
   counted = refl;
@@ -48,7 +48,7 @@ witness = record {
 pub witness-3 : ThreeBoards
 unfolding whole_list turns_of
 witness-3 = record {
-  premises = met refl refl refl refl (omega arith) refl refl refl refl;
+  premises = met refl refl refl (omega arith) refl refl refl refl;
   closed_tests = refl;
   open_tests = refl;
   counted = refl;
@@ -58,7 +58,7 @@ witness-3 = record {
 pub witness-ring : FourOnRing
 unfolding whole_list ring_boards turns_of ring_calls
 witness-ring = record {
-  premises = met refl refl refl refl (omega arith) refl refl refl refl;
+  premises = met refl refl refl (omega arith) refl refl refl refl;
   closed_tests = refl;
   open_tests = refl;
   counted = refl;

@@ -63,12 +63,12 @@ ring_boards = state_of (set_cell 4 (fresh_table 4) 1 status_column 1) 0 0
 abbrev pub ring_pass : List ℕ → List ℕ
 ring_pass rest = 0 ∷ 0 ∷ 0 ∷ 2 ∷ 2 ∷ 3 ∷ 3 ∷ rest
 
--- the second run has another size, and the third a wiring that is none
+-- the second run has another size, and the third a schedule of three bytes
 unfoldable pub ring_calls : List Call
 ring_calls =
     call_with Ring 4 (turns_of (ring_pass (3 ∷ [])))
     ∷ call_with Ring 8 (turns_of (0 ∷ 1 ∷ []))
-    ∷ call_with 3 4 (turns_of (2 ∷ 2 ∷ []))
+    ∷ call_with Ring 4 (1 ∷ 2 ∷ 1 ∷ [])
     ∷ call_with Ring 4 (turns_of (3 ∷ 2 ∷ 0 ∷ 0 ∷ 0 ∷ 2 ∷ ring_pass (2 ∷ [])))
     ∷ []
 
