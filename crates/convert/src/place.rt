@@ -191,13 +191,13 @@ impl Form {
         ensures { let lines = fresh_table self.size in
             result ≡ table_check self.size (sets lines (line_start self.size i.0) (line_as self.edition line.now)) }
     {
-        fresh::fresh_table(Wiring::Cube as usize, self.size as usize, own)?;
+        fresh::fresh_table(self.size as usize, own)?;
         let table = &mut TableMut {
             n: self.size,
             bytes: own,
         };
         lines::put_line(table, self.edition, i, line);
-        rules::check_table(self.size as usize, own)
+        rules::check_table(Wiring::Cube, self.size as usize, own)
     }
 }
 

@@ -24,15 +24,14 @@ use Rattle.vcube.proofs.Narrow.{Narrow, Far, behind, before, checked, answered, 
 
 place_size : (w : Wiring) (n i len : ℕ) → place_check w n i len ≡ Ok tt → is_size n ≡ true
 unfolding place_check
-place_size w n i len e = ensure_ok _ _ tt (and_ok _ _ tt (and_ok _ _ tt e).1).0
+place_size w n i len e = ensure_ok _ _ tt (and_ok _ _ tt e).0
 
 module _ (w : Wiring) (n : ℕ) where
   place_far : (len : ℕ) → Far (λ i. place_check w n i len)
   unfolding place_check
   place_far len =
-      behind (wiring_check w) _
-      (λ a. behind (ensure (is_size n) SizeOutOfRange) _
-      (λ z. before _ _ (station_far n (ensure_ok _ _ tt z))))
+      behind (ensure (is_size n) SizeOutOfRange) _
+      (λ z. before _ _ (station_far n (ensure_ok _ _ tt z)))
 
   line_far : (l : List ℕ) → Far (λ i. line_check w n i l)
   unfolding line_check
