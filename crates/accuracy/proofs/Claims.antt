@@ -57,7 +57,8 @@ late-cause n t none xs j hj (inl p) = absurd (none-suspects n t none j hj p)
 late-cause n t none xs j hj (inr l) = l
 
 -- the tested station, where it is told
-tested-below : (w : Wiring) (n : ℕ) (s : State) (e : Entry) → Accepted w n s.table → entry_refusal n s e ≡ 0 → outcome_of w n s.table e ≡ outcome_tested_told
+tested-below : (w : Wiring) (n : ℕ) (s : State) (e : Entry) → Accepted w n s.table → entry_refusal n s e ≡ 0
+    → outcome_of w n s.table e ≡ outcome_tested_told
     → tested_of w n s.table e < n
 unfolding outcome_of tested_of turn_outcome turn_tested
 tested-below w n s e ok z =

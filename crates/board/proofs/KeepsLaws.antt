@@ -37,7 +37,6 @@ use Rattle.board.specs.Board.{outcome_of, row_given, after_outcome, tested_at, t
 use Rattle.board.specs.Packed.{heard}
 use Rattle.table.proofs.LineLaws.{row_of-length, row_of-at, with_row-length, with_row-head, with_row-in}
 use Rattle.table.specs.declared.wiring.Wiring.{Wiring}
-use Rattle.table.specs.declared.wiring.Wiring.TheVariants.{Cube}
 use Rattle.board.proofs.NextLaws.{next-low, next-station}
 use Rattle.board.proofs.PackedLaws.{any-bytes}
 use Rattle.board.specs.Keeps.{CallsKeepTheRules, FreshLineIsOne}

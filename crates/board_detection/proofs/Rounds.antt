@@ -100,7 +100,8 @@ module _ (w : Wiring) (n : ℕ) (s : State) (b : Lines) (e : Entry) (es : List E
           with here r (λ q p alike. rw (z, same ∙ over, over, ← made q p alike) (r.counts q p alike))
 
 -- of the whole list, in a round that started with t₀ and has the entries `cur` so far
-pub same-rounds : (w : Wiring) (n : ℕ) (s : State) (b : Lines) (es : List Entry) → Beside w n s b → TurnsInTime w n b es → (t₀ : List ℕ) (cur : List Taken)
+pub same-rounds : (w : Wiring) (n : ℕ) (s : State) (b : Lines) (es : List Entry) → Beside w n s b → TurnsInTime w n b es
+    → (t₀ : List ℕ) (cur : List Taken)
     → ((k : ℕ) → k < n → Reset n t₀ k) → Counts n t₀ cur s.table → SameRounds w n s b cur es
 unfolding taken_from all_taken cut counts_by_round go_on after_entries
 same-rounds w n s b [] at turns t₀ cur fresh counts =

@@ -1,5 +1,5 @@
 -- Detection by n boards on one cable, each with its own line and nothing else: the live ones come to suspect exactly those that are not live. w is
--- the wiring's number, b k the line that board k holds, and es the entries that the boards take by their calls, one after the other.
+-- the wiring, b k the line that board k holds, and es the entries that the boards take by their calls, one after the other.
 -- Assumes nothing.
 use Rattle.std.specs.Prelude.{◌≡◌, ◌⊎◌, ℕ, ◌+◌, ◌-◌, ◌≤◌, ◌<◌, Bool, true, false, not, List, [], ◌∷◌, ◌++◌, length, Some, Result, Ok, Err}
 use Rattle.std.specs.Prelude.{if◌then◌else◌, ◌==◌, slice_index}
@@ -99,4 +99,5 @@ BoardsDetect rounds =
 -- Rule Conditions are met: boards that have called Board, fresh meet what is supposed of the boards, whatever their lines were before
 abbrev pub FreshBoardsBegin : Type 0
 FreshBoardsBegin =
-    (w : Wiring) (n : ℕ) (b : Lines) → ((i : ℕ) → i < n → place_check w n i (length (b i)) ≡ Ok tt) → 0 < n → BoardsBegin w n (λ i. fresh_after w n i (b i))
+    (w : Wiring) (n : ℕ) (b : Lines) → ((i : ℕ) → i < n → place_check w n i (length (b i)) ≡ Ok tt) → 0 < n
+    → BoardsBegin w n (λ i. fresh_after w n i (b i))

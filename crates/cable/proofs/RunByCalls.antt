@@ -178,7 +178,8 @@ closing w n t b hold size long lines =
     }
 
 -- an entry that is taken
-module _ (w : Wiring) (n : ℕ) (s : State) (b : Lines) (hold : Hold n s.table b) (e : Entry) (a : Accepted w n s.table) (taken : entry_refusal n s e ≡ 0) where
+module _ (w : Wiring) (n : ℕ) (s : State) (b : Lines) (hold : Hold n s.table b) (e : Entry) (a : Accepted w n s.table)
+(taken : entry_refusal n s e ≡ 0) where
   takes : Takes n s e
   takes = entry-facts n s e taken
 

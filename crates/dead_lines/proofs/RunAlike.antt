@@ -103,7 +103,8 @@ further : {n : ℕ} {s r s' r' : State} {a b : RunResult} → Step n s.table r.t
 further one rest =
     record { number = rest.number; taken = rest.taken; sheet = rest.sheet; rounds = rest.rounds; tests = rest.tests; step = then one rest.step }
 
-run-on : (w : Wiring) (n k : ℕ) (s r : State) (sheet : List ℕ) (es : List Entry) → Both n s r → SameFrom n s r (go_on w n k s sheet es) (go_on w n k r sheet es)
+run-on : (w : Wiring) (n k : ℕ) (s r : State) (sheet : List ℕ) (es : List Entry) → Both n s r
+    → SameFrom n s r (go_on w n k s sheet es) (go_on w n k r sheet es)
 unfolding go_on
 run-on w n k s r sheet [] b = stopped n s r b 0 k sheet
 run-on w n k s r sheet (e ∷ es) b =

@@ -1,7 +1,7 @@
 -- That the lines of stations that are not live matter to no run, grant or drive. s and r are two tables, each with its tally, to which the same is
 -- done; s' and r' are what is left of them.
 -- Assumes nothing.
-use Rattle.std.specs.Prelude.{ℕ, ◌<◌, ◌≡◌, true, List, [], ◌∷◌, All, Ok}
+use Rattle.std.specs.Prelude.{ℕ, ◌<◌, ◌≡◌, true, List, [], ◌∷◌, All}
 use Rattle.table.specs.Table.{stride, cell, status, live}
 use Rattle.table.specs.Rules.{table_refusal}
 use Rattle.table.specs.declared.wiring.Wiring.{Wiring}

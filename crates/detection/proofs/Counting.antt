@@ -48,7 +48,8 @@ counts_start n t =
     record { turns = λ i h. omega arith; ended = λ i h. omega arith; last_ends = λ i h e. absurd (omega arith); tests = omega arith }
 
 -- a taken turn keeps it
-module _ (w : Wiring) (n : ℕ) (s : State) (e : Entry) (o : ℕ) (t₀ t' : List ℕ) (cur : List Taken) (no_crash : is_crash e ≡ false) (below : e.station < n)
+module _ (w : Wiring) (n : ℕ) (s : State) (e : Entry) (o : ℕ) (t₀ t' : List ℕ) (cur : List Taken) (no_crash : is_crash e ≡ false)
+(below : e.station < n)
     (unfinished : finished n s.table e.station ≡ 0) (heads : Heads w n s.table t' e.station o (makes_test w n s.table e.station))
     (c : Counts n t₀ cur s.table) where
   abbrev t : List ℕ
@@ -164,7 +165,8 @@ pub roomy-start : (w : Wiring) (n : ℕ) (t : List ℕ) → ((i : ℕ) → i < n
 roomy-start w n t fresh i h = rw ((fresh i h).untested, (fresh i h).next) (omega (arith, standing-own w n i h))
 
 -- a turn keeps it
-pub turn-roomy : (w : Wiring) (n : ℕ) (t t' : List ℕ) (i o : ℕ) → Lines w n t → i < n → Heads w n t t' i o (makes_test w n t i) → Roomy w n t → Roomy w n t'
+pub turn-roomy : (w : Wiring) (n : ℕ) (t t' : List ℕ) (i o : ℕ) → Lines w n t → i < n → Heads w n t t' i o (makes_test w n t i) → Roomy w n t
+    → Roomy w n t'
 turn-roomy w n t t' i o lines below heads roomy k h = by_cases (ℕ_discrete k i) (λ e. rw e own) other
   where
     own : suc (tests_made n t' i) ≤ standing w n i (next_distance n t' i)

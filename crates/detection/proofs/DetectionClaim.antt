@@ -1,15 +1,13 @@
 -- Detection, proved: the chain of taken entries is cut into rounds, and what closed rounds give bounds the rounds after which all is known. The
 -- wiring is a parameter (`RoundKnowledge`); with the cube's and the ring's the claim holds within the worst case and the greater bounds.
 -- Assumes nothing.
-use mathlib.Core.Path.{◌≡◌, refl, sym, ap, subst, ◌∙◌}
+use mathlib.Core.Path.{◌≡◌, refl, sym, ap, ◌∙◌}
 use mathlib.Core.Logic.{◌⊎◌, inl, inr, ◌≢◌}
 use mathlib.Core.Bool.{Bool, true, false, not, ◌&&◌}
 use mathlib.Core.List.{List, [], ◌∷◌, ◌++◌}
 use Prim.Native.Nat.{ℕ, ◌≤◌, ◌<◌}
 use native.Mathlib.Nat.{le_trans}
 use native.Mathlib.Omega.{arith}
-use Rattle.std.specs.Prelude.{Ok}
-use Rattle.std.proofs.lemmas.Bool.Decides.{nat_tests}
 use borrow.Author.Tests.{ltb-true, ltb-false, eqb-true, eqb-false, ne_eqb, not-true}
 use lib.ListN.{length}
 use lib.Dec.{ltb, eqb}
@@ -45,7 +43,8 @@ use Rattle.detection.proofs.Cube.{cube}
 use Rattle.detection.proofs.RingKnowledge.{ring}
 
 -- no live station suspects a live one: the byte is 0, where rows hold 0 and 1 only
-pub trusts : (w : Wiring) (n : ℕ) (t : List ℕ) → Accepted w n t → none_suspected n t ≡ true → (i j : ℕ) → i < n → j < n → live n t i ≡ true → live n t j ≡ true
+pub trusts : (w : Wiring) (n : ℕ) (t : List ℕ) → Accepted w n t → none_suspected n t ≡ true → (i j : ℕ) → i < n → j < n → live n t i ≡ true
+    → live n t j ≡ true
     → suspects n t i j ≡ 0
 unfolding none_suspected
 trusts w n t ok none i j h g a b =
@@ -75,7 +74,8 @@ company-of n t two i h l =
     p = least other n 0
 
 -- an accepted table in which no live station suspects a live one
-pub plain-at : (w : Wiring) (n : ℕ) (t : List ℕ) → Accepted w n t → ((i j : ℕ) → i < n → j < n → live n t i ≡ true → live n t j ≡ true → suspects n t i j ≡ 0)
+pub plain-at : (w : Wiring) (n : ℕ) (t : List ℕ) → Accepted w n t
+    → ((i j : ℕ) → i < n → j < n → live n t i ≡ true → live n t j ≡ true → suspects n t i j ≡ 0)
     → Plain w n (live n t) t
 plain-at w n t ok clean = record { lines = (ok.long, accepted-line w n t ok); lives = λ i h. refl; accurate = clean }
 
@@ -103,7 +103,8 @@ rounds-from w n s calls given ok K =
     course w n (live n s.table) K given.size company chain given.no_crash given.no_late s.table [] first (K.starts s.table first)
 
 -- the claim, on a wiring on which `enough` rounds are enough, and after so many the closed ones have the count of tests
-module _ (w : Wiring) (n : ℕ) (s : State) (calls : List Call) (given : DetectionPremises w n s calls) (K : RoundKnowledge w n (live n s.table)) (enough : ℕ)
+module _ (w : Wiring) (n : ℕ) (s : State) (calls : List Call) (given : DetectionPremises w n s calls) (K : RoundKnowledge w n (live n s.table))
+(enough : ℕ)
     (known : K.enough ≤ enough) (from : K.counted_from ≤ counted_from w enough) (count : K.count ≡ count_of w n s.table) where
   abbrev L : ℕ → Bool
   L = live n s.table

@@ -12,7 +12,6 @@ use Rattle.table.specs.Sizes.{is_size}
 use Rattle.table.specs.Table.{head, stride, cell, status_column, next_column, finished_column}
 use Rattle.table.specs.Table.{tests_column, told_by_column, told_by_none, rounds_ago_column, suspects, live, status}
 use Rattle.table.specs.Rules.{exit_rule, line_rules, table_refusal}
-use Rattle.std.specs.Prelude.{Ok}
 use Rattle.table.specs.Fresh.{fresh_table}
 use Rattle.lists.proofs.SearchLaws.{every-all}
 use Rattle.lists.specs.Sums.{bit}

@@ -82,7 +82,8 @@ turn-in-round w n L t₀ t' cur s e inv turn = record {
 }
 
 -- where the round is over every live station has finished its pass
-pub all-finished : (w : Wiring) (n : ℕ) (L : ℕ → Bool) (t : List ℕ) → Plain w n L t → round_over n t ≡ true → (i : ℕ) → i < n → L i ≡ true → finished n t i ≡ 1
+pub all-finished : (w : Wiring) (n : ℕ) (L : ℕ → Bool) (t : List ℕ) → Plain w n L t → round_over n t ≡ true → (i : ℕ) → i < n → L i ≡ true
+    → finished n t i ≡ 1
 unfolding live_finished
 all-finished w n L t p over i h l =
     let all = (both (some_live n t) (every (finished_if_live n t) n) over).1 in

@@ -94,7 +94,8 @@ module _ (n : ℕ) (t : List ℕ) (i x : ℕ) (long : length t ≡ table_length 
   exchange-between k y h = between k y h (ℕ_discrete i k) (ℕ_discrete x k) (ℕ_discrete y k)
 
 -- the test of x by the live i
-module _ (w : Wiring) (n : ℕ) (L : ℕ → Bool) (t : List ℕ) (i x : ℕ) (p : Plain w n L t) (hi : i < n) (hx : x < n) (apart : i ≢ x) (li : L i ≡ true) where
+module _ (w : Wiring) (n : ℕ) (L : ℕ → Bool) (t : List ℕ) (i x : ℕ) (p : Plain w n L t) (hi : i < n) (hx : x < n) (apart : i ≢ x)
+(li : L i ≡ true) where
   long : length t ≡ table_length n
   long = p.lines.0
 
@@ -195,7 +196,8 @@ not-alone w n L t i p company hi li =
     rw (every-not (self_or_suspected n t i) n o.0 o.1 fails, and-false)
 
 -- a turn of a live station, where the reply of a live station is not late
-pub turn-effect : (w : Wiring) (n : ℕ) (L : ℕ → Bool) (t : List ℕ) (kind i : ℕ) → Plain w n L t → Company n L → i < n → L i ≡ true → finished n t i ≡ 0
+pub turn-effect : (w : Wiring) (n : ℕ) (L : ℕ → Bool) (t : List ℕ) (kind i : ℕ) → Plain w n L t → Company n L → i < n → L i ≡ true
+    → finished n t i ≡ 0
     → (makes_test w n t i ≡ true → L (wired_station w n i (next_test w n t i)) ≡ true → kind ≡ kind_turn)
     → TurnKept w n L t (turn w n t kind i) i (outcome_at w n t kind i (next_test w n t i))
 unfolding turn testing after_test

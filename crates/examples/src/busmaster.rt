@@ -140,13 +140,7 @@ fn nobody_left(rt: &impl Print) {
     };
     lent.put(Station(0), cells::HEAD + 1, 1);
     lent.put(Station(1), cells::HEAD, 1);
-    let first = drive::drive(
-        Wiring::Cube,
-        2,
-        &mut table,
-        Tally::default(),
-        NO_GRANT,
-    );
+    let first = drive::drive(Wiring::Cube, 2, &mut table, Tally::default(), NO_GRANT);
     drive_line(rt, first);
     drive_line(
         rt,

@@ -43,4 +43,5 @@ KindOneIsDriven = (w : Wiring) (n : ℕ) (p : Stand) (k : ℕ) → after_turns w
 -- Rule Enough grants: every drive that is not refused at its start stops, for one of the three reasons
 abbrev pub DriveStops : Type 0
 DriveStops =
-    (w : Wiring) (n : ℕ) (s : State) (last : ℕ) → grant_refusal w n s.table last ≡ 0 → Stopped w n (stand_at s last) (grants_made w n (stand_at s last))
+    (w : Wiring) (n : ℕ) (s : State) (last : ℕ) → grant_refusal w n s.table last ≡ 0
+    → Stopped w n (stand_at s last) (grants_made w n (stand_at s last))

@@ -103,7 +103,8 @@ module _ (w : Wiring) (n : ℕ) where
         (any-before (late_of i) why.before (why.x ∷ why.rest) (why.late none)))
 
 -- of the boards' own lines
-have-causes : (w : Wiring) (n : ℕ) (s : State) (y : System) → table_refusal w n s.table ≡ 0 → none_suspected n s.table ≡ true → AllTaken w n s y.entries
+have-causes : (w : Wiring) (n : ℕ) (s : State) (y : System) → table_refusal w n s.table ≡ 0 → none_suspected n s.table ≡ true
+    → AllTaken w n s y.entries
     → InStep w n s y → HaveCauses w n s y
 have-causes w n s y z none t h = record {
   suspected = λ i j hi hj l m q.

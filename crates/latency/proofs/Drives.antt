@@ -76,7 +76,8 @@ one-turn w n s i ok z = record {
 }
 
 -- as long as a drive does not stop
-grants-turns : (w : Wiring) (n : ℕ) (s : State) (last : ℕ) → Grantable w n s.table last → (k : ℕ) → ((j : ℕ) → j < k → stops w n (stand_at s last) j ≡ false)
+grants-turns : (w : Wiring) (n : ℕ) (s : State) (last : ℕ) → Grantable w n s.table last → (k : ℕ)
+    → ((j : ℕ) → j < k → stops w n (stand_at s last) j ≡ false)
     → Turns w n s (after_grants w n (stand_at s last) k).state k
 unfolding after_grants grant_turn
 grants-turns w n s last g zero going = no-turns w n s

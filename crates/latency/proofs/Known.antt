@@ -1,6 +1,5 @@
 -- After how many turns all is known: from the start of a round, and from any moment of one, whose rest comes first.
 -- Assumes nothing.
-use Rattle.std.specs.Prelude.{Ok}
 use mathlib.Core.Path.{◌≡◌, refl}
 use mathlib.Core.Logic.{by_cases}
 use mathlib.Core.Bool.{Bool, true, false, not}

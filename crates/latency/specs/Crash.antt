@@ -1,6 +1,6 @@
 -- The same from the moment at which a board is dead, which may be in the middle of a round: the rest of that round comes first.
 -- Assumes nothing.
-use Rattle.std.specs.Prelude.{◌≡◌, Ok, true, not, List, [], ◌∷◌, ◌++◌, ℕ, ◌+◌, ◌*◌, ◌≤◌, length}
+use Rattle.std.specs.Prelude.{◌≡◌, true, not, List, [], ◌∷◌, ◌++◌, ℕ, ◌+◌, ◌*◌, ◌≤◌, length}
 use Rattle.table.specs.Sizes.{is_size}
 use Rattle.table.specs.Table.{table_length}
 use Rattle.table.specs.Rules.{table_refusal}

@@ -77,13 +77,15 @@ lines_finished w n t i h =
     stays false f = grind (arith, nat_tests)
 
 -- a byte of the mended table that the round has no part in
-pub outside-pass : (w : Wiring) (n : ℕ) (t : List ℕ) (over : Bool) (i c : ℕ) → (leb 1 c && leb c 3) ≡ false → mended_byte w n t over i c ≡ line_byte w n t i c
+pub outside-pass : (w : Wiring) (n : ℕ) (t : List ℕ) (over : Bool) (i c : ℕ) → (leb 1 c && leb c 3) ≡ false
+    → mended_byte w n t over i c ≡ line_byte w n t i c
 unfolding mended_byte
 outside-pass w n t true i c e = rw e refl
 outside-pass w n t false i c e = refl
 
 -- of a row
-pub row-byte : (w : Wiring) (n : ℕ) (t : List ℕ) (over : Bool) (i k : ℕ) → mended_byte w n t over i (head + k) ≡ mended_suspicion i k (cell n t i (head + k))
+pub row-byte : (w : Wiring) (n : ℕ) (t : List ℕ) (over : Bool) (i k : ℕ)
+    → mended_byte w n t over i (head + k) ≡ mended_suspicion i k (cell n t i (head + k))
 unfolding line_byte
 row-byte w n t over i k =
     let back : head + k - head ≡ k = omega arith in

@@ -53,7 +53,8 @@ rounds_ago-mended : (w : Wiring) (n : ℕ) (t : List ℕ) (i : ℕ) → i < n
 unfolding line_byte
 rounds_ago-mended w n t i h = mended-cell w n t i 5 h (omega arith) ∙ outside-pass w n t (is_over w n t) i 5 refl
 
-pub suspects-mended : (w : Wiring) (n : ℕ) (t : List ℕ) (i k : ℕ) → i < n → k < n → suspects n (mended w n t) i k ≡ mended_suspicion i k (suspects n t i k)
+pub suspects-mended : (w : Wiring) (n : ℕ) (t : List ℕ) (i k : ℕ) → i < n → k < n
+    → suspects n (mended w n t) i k ≡ mended_suspicion i k (suspects n t i k)
 suspects-mended w n t i k h hk = mended-cell w n t i (head + k) h (omega arith) ∙ row-byte w n t (is_over w n t) i k
 
 -- bytes 1 to 3 after mending

@@ -120,7 +120,8 @@ unfolding run start_check go_on entries
 empty-run w n s z = rw (check_zero _ z)
 
 -- the rest of a run
-accepted-on : (w : Wiring) (n k : ℕ) (s : State) (sheet : List ℕ) (es : List Entry) → Accepted w n s.table → Accepted w n (go_on w n k s sheet es).state.table
+accepted-on : (w : Wiring) (n k : ℕ) (s : State) (sheet : List ℕ) (es : List Entry) → Accepted w n s.table
+    → Accepted w n (go_on w n k s sheet es).state.table
 unfolding go_on
 accepted-on w n k s sheet [] a = a
 accepted-on w n k s sheet (e ∷ es) a =

@@ -72,7 +72,8 @@ made-test w n t e = pick (is_crash e) (makes_test w n t e.station)
     pick false false = refl
 
 -- a line that is lent as a part of the sheet and comes back as that of an entry
-pub line-back : (w : Wiring) (n : ℕ) (s : State) (e : Entry) (sheet : List ℕ) (k : ℕ) (line : List ℕ) → line ≡ sheet_line w n s e → 4 * k + 4 ≤ length sheet
+pub line-back : (w : Wiring) (n : ℕ) (s : State) (e : Entry) (sheet : List ℕ) (k : ℕ) (line : List ℕ) → line ≡ sheet_line w n s e
+    → 4 * k + 4 ≤ length sheet
     → take (4 * k) sheet ++ (line ++ drop (4 * k + 4 - 4 * k) (drop (4 * k) sheet)) ≡ write_line sheet k (sheet_line w n s e)
 unfolding sheet_line
 line-back w n s e sheet k line same fits =

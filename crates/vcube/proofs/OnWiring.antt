@@ -1,6 +1,6 @@
 -- What a call by a wiring's number is, where there is such a wiring and where there is none.
 -- Assumes nothing.
-use mathlib.Core.Path.{◌≡◌, refl, sym}
+use mathlib.Core.Path.{◌≡◌, refl}
 use Prim.Native.Nat.{ℕ}
 use Rattle.std.specs.Prelude.{Result, Ok, Err, IfOk}
 use Rattle.lists.specs.declared.refusal.Refusal.{Refusal}

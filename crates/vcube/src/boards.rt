@@ -166,7 +166,7 @@ pub extern "C" fn vcube_board_exchanged(
 ) -> u8
     ensures number { let len = length packed.now in
         result ≡ on_wiring wiring no_such_wiring
-            (λ w. number_of_result (exchanged_check w n own line.old from len)) }
+        (λ w. number_of_result (exchanged_check w n own line.old from len)) }
     ensures line_after { line.new
         ≡ on_wiring wiring line.old (λ w. exchanged_after w n own line.old from packed.now) }
 {

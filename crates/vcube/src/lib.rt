@@ -25,7 +25,8 @@ ghost use Rattle.saved.specs.Convert.{convert_refusal, convert_after, converted_
 ghost use Rattle.figures.specs.Batch.{figures};
 ghost use Rattle.figures.specs.Totals.{totals, join, figures_of_totals};
 ghost use Rattle.table.specs.Wiring.{wiring_of};
-ghost use Rattle.vcube.specs.Exports.{on_wiring, no_such_wiring, run_on_none, drive_on_none, outcome_out, drive_out, pair_out, pair_of, tally_of, loaded_out, filled, figures_members};
+ghost use Rattle.vcube.specs.Exports.{on_wiring, no_such_wiring, run_on_none, drive_on_none};
+ghost use Rattle.vcube.specs.Exports.{outcome_out, drive_out, pair_out, pair_of, tally_of, loaded_out, filled, figures_members};
 ghost use Rattle.slots.specs.Board.{slot_answer};
 ghost use Rattle.latency.specs.Wait.{wait_answer};
 ghost use Rattle.std.proofs.lemmas.List.Edits.{sets};

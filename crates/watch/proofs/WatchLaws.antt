@@ -13,7 +13,6 @@ use Rattle.lists.proofs.Writing.{sets-front}
 use Rattle.table.specs.Sizes.{is_size}
 use Rattle.table.specs.Table.{table_length}
 use Rattle.table.specs.declared.wiring.Wiring.{Wiring}
-use Rattle.table.specs.declared.wiring.Wiring.TheVariants.{Cube, Ring}
 use Rattle.table.specs.Rules.{shape_check, table_check}
 use Rattle.table.specs.Fresh.{fresh_table, fresh_after}
 use Rattle.plant.specs.declared.Ran.{Ran as RanPlant}

@@ -1,8 +1,7 @@
 -- The worst-case latency is reached on each wiring: an end in itself.
 -- Assumes nothing.
-use Prim.Native.Nat.{ℕ}
 use Rattle.table.specs.declared.wiring.Wiring.TheVariants.{Cube, Ring}
-use Rattle.witness.specs.WorstCase.{WorstCaseAt, WorstCaseIsReached}
+use Rattle.witness.specs.WorstCase.{WorstCaseIsReached}
 use Rattle.witness.proofs.Slowest.{cube-reached}
 use Rattle.witness.proofs.SlowRing.{ring-reached}
 
