@@ -15,7 +15,7 @@
  * In vcube_plant.h table, tally and last granted number are one struct, and the same calls take it in place of up to seven arguments.
  *
  * The manual pages say what each call does and which errors it returns: vcube(3) first, then one page for each group of calls below, and each call
- * is the name of its page too. The rules, by name, are in docs/RULES.md.
+ * is the name of its page too. The rules, by name, are in RULES.md: docs/ of the source, or share/doc/vcube where it is installed.
  *
  * State: the caller keeps table, tally (closed rounds, and tests) and last granted number; the library keeps nothing, not even a pointer. Calls are
  * thread-safe, unless two share memory and one of them writes it. (The portable C takes one call at a time.)
