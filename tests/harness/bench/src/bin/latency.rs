@@ -69,7 +69,11 @@ impl Summary {
 
     /// Mean and greatest, as a cell.
     fn mean_and_greatest(&self) -> String {
-        format!("{}, {}", decimal(self.figures.mean), self.figures.greatest)
+        format!(
+            "{:.2}, {}",
+            self.figures.mean.value(),
+            self.figures.greatest
+        )
     }
 }
 
@@ -346,9 +350,9 @@ fn order_table(results: &[Results]) -> String {
     let mut text = String::from(
         "## Other orders of turns
 
-Mean, in brackets as the exact fraction, and greatest over random plants. Whole passes: each board takes its pass in one go, in an order
-drawn anew for each round, or by rising or falling number. Delaying: each turn is taken by a board whose turn adds the fewest suspicions to
-the table (an eighth of the trials). Driven: the library grants the turns (`vcube_drive`), each round by one drive.
+Mean and greatest over random plants. Whole passes: each board takes its pass in one go, in an order drawn anew for each round, or by rising
+or falling number. Delaying: each turn is taken by a board whose turn adds the fewest suspicions to the table (an eighth of the trials).
+Driven: the library grants the turns (`vcube_drive`), each round by one drive.
 
 | n | random | whole passes | rising passes | falling passes | delaying | driven |
 |--:|--:|--:|--:|--:|--:|--:|
@@ -367,9 +371,9 @@ the table (an eighth of the trials). Driven: the library grants the turns (`vcub
 
 const RING_TEXT: &str = "## Cube and ring
 
-The same dead boards on both wirings, with turns at random. The worst-case latency of the ring is ⌊n/2⌋ rounds, and at each size from 3 to
-64 a plant takes it, with board 0 dead: in each round every live board takes its pass in one go, those first that are farther from board 0,
-so that the suspicion of it spreads by one board on either side.
+The same dead boards on both wirings, with turns at random: mean and greatest. The worst-case latency of the ring is ⌊n/2⌋ rounds, and at
+each size from 3 to 64 a plant takes it, with board 0 dead: in each round every live board takes its pass in one go, those first that are
+farther from board 0, so that the suspicion of it spreads by one board on either side.
 
 | n | cube | slowest on the cube | f(d) | ring | slowest on the ring | ⌊n/2⌋ |
 |--:|--:|--:|--:|--:|--:|--:|
