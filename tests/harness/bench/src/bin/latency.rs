@@ -271,20 +271,19 @@ n is the number of boards, and d its logarithm to base 2, rounded up. How many b
 drawn first from 2 to 2^d, since few live boards take the most rounds; then which ones. At least one board is dead, but for n = 2, where no
 round is counted. Each turn is taken by any pending board, at random.
 
-f(d) is the worst-case latency: d rounds for d ≤ 3, and 4 + ⌊(d − 3)²/2⌋ from 4 on ([proved](DETECTION.md)). Beside it stand the triangular
-and the square bound.
+f(d) is the worst-case latency: d rounds for d ≤ 3, and 4 + ⌊(d − 3)²/2⌋ from 4 on ([proved](DETECTION.md)).
 
 The library gives these figures (`vcube_figures_of_list`), in brackets the exact fractions; the variance is divided by the count. The 99th
 percentile is not the library's: it is the least result that at least 99 in 100 trials did not exceed.
 
-| n | d | trials | least | mean | variance | 99th percentile | greatest | f(d) | 1 + d(d − 1)/2 | d·d |
-|--:|--:|--:|--:|--:|--:|--:|--:|--:|--:|--:|
+| n | d | trials | least | mean | variance | 99th percentile | greatest | f(d) |
+|--:|--:|--:|--:|--:|--:|--:|--:|--:|
 ";
 
 fn main_table(results: &[Results]) -> String {
     let mut text = String::from(MAIN_TEXT);
     for row in results {
-        let (n, d, bounds) = (row.n, dimension(row.n), bound_cells(row.n));
+        let (n, d, worst) = (row.n, dimension(row.n), worst_case(Wiring::Cube, row.n));
         let Summary {
             figures,
             percentile,
@@ -298,7 +297,7 @@ fn main_table(results: &[Results]) -> String {
         let (mean, variance) = (decimal(figures.mean), decimal(figures.variance));
         let _ = writeln!(
             text,
-            "| {n} | {d} | {count} | {least} | {mean} | {variance} | {percentile} | {greatest} | {bounds} |"
+            "| {n} | {d} | {count} | {least} | {mean} | {variance} | {percentile} | {greatest} | {worst} |"
         );
     }
     text
@@ -310,18 +309,13 @@ fn bounds(n: usize) -> [u32; 3] {
     [worst_case(Wiring::Cube, n), 1 + d * (d - 1) / 2, d * d]
 }
 
-fn bound_cells(n: usize) -> String {
-    let [worst, triangle, square] = bounds(n);
-    format!("{worst} | {triangle} | {square}")
-}
-
 const SLOWEST_TEXT: &str = "## The slowest plants
 
 A plant of each size from 3 to 64 in `samples/slowest.txt`, with many boards dead at once and the turns in an unlucky order. Each takes f(d)
 rounds, and none can take more. `samples/slowest 11 | ./watch` runs the plant of 11 boards.
 
-| n | live | rounds until known | d | f(d) | 1 + d(d − 1)/2 | d·d |
-|--:|--:|--:|--:|--:|--:|--:|
+| n | live | rounds until known | d | f(d) |
+|--:|--:|--:|--:|--:|
 ";
 
 /// A row for neighbouring sizes with the same d and the same rounds.
@@ -331,8 +325,8 @@ fn slowest_table(slowest: &[Slowest]) -> String {
     for plants in slowest.chunk_by(|one, next| key(one) == key(next)) {
         let sizes = range(plants.iter().map(|plant| plant.n));
         let live = range(plants.iter().map(|plant| plant.n - plant.dead));
-        let ((d, rounds), bounds) = (key(&plants[0]), bound_cells(plants[0].n));
-        let _ = writeln!(text, "| {sizes} | {live} | {rounds} | {d} | {bounds} |");
+        let ((d, rounds), worst) = (key(&plants[0]), worst_case(Wiring::Cube, plants[0].n));
+        let _ = writeln!(text, "| {sizes} | {live} | {rounds} | {d} | {worst} |");
     }
     text
 }
