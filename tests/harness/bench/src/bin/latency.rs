@@ -69,7 +69,11 @@ impl Summary {
 
     /// Mean and greatest, as a cell.
     fn mean_and_greatest(&self) -> String {
-        format!("{}, {}", decimal(self.figures.mean), self.figures.greatest)
+        format!(
+            "{:.2}, {}",
+            self.figures.mean.value(),
+            self.figures.greatest
+        )
     }
 }
 
@@ -253,10 +257,9 @@ fn tables(results: &[Results], slowest: &[Vec<Slowest>; 2], grants: &[Grants]) -
 
 const HEAD: &str = "# How many rounds pass until the dead boards are known
 
-Made by `tests/latency` with seed 1, by runs and drives of the library; the same command gives the same file.
-
-Counted are the closed rounds: from a fresh table on which the dead boards crash first, the rounds that close after the last crash, up to
-and with the first one at whose end every live board suspects exactly the dead ones. All turns are of kind 1.
+Made by `tests/latency`, by runs and drives of the library; the same command gives the same file. Counted are the closed rounds after the
+last crash, up to and with the first one at whose end every live board suspects exactly the dead ones; the dead boards crash first on a
+fresh table. No reply is late.
 
 ![Closed rounds until the dead boards are known](latency.svg)
 
@@ -264,28 +267,23 @@ and with the first one at whose end every live board suspects exactly the dead o
 
 const MAIN_TEXT: &str = "## Random plants
 
-n is the number of boards, and d its logarithm to base 2, rounded up. At least two boards are live. Their number is drawn from 2 to a power
-of two that is drawn first from 2 to 2^d, since few live boards take the most rounds; then which ones. At least one board is dead, but for
-n = 2, where there is nothing to find and no round is counted. Each turn is taken by any live board that has not finished its pass, at
-random.
+n is the number of boards, and d its logarithm to base 2, rounded up. How many boards are live is drawn from 2 to a power of two that is
+drawn first from 2 to 2^d, since few live boards take the most rounds; then which ones. At least one board is dead, but for n = 2, where no
+round is counted. Each turn is taken by any pending board, at random.
 
-The worst-case latency is f(d) rounds: d rounds for d ≤ 3, and 4 + ⌊(d − 3)²/2⌋ from 4 on. That it suffices is proved
-([DETECTION.md](DETECTION.md)), and from n = 3 on the slowest plants below take it. The triangular bound 1 + d(d − 1)/2 and the square bound
-d·d are nowhere less.
+f(d) is the worst-case latency: d rounds for d ≤ 3, and 4 + ⌊(d − 3)²/2⌋ from 4 on ([proved](DETECTION.md)).
 
-The count of trials, least, mean, variance and greatest are given by the library (`vcube_figures_of_list`). Mean and variance
-are exact: in brackets stands the fraction in lowest terms. The variance is over the whole batch, divided by the count. The library takes at
-most 4,096 results, so that no row has more trials; with more than 32 boards there are half as many. The 99th percentile is not the
-library's: it is the least result that at least 99 in 100 trials did not exceed.
+The library gives these figures (`vcube_figures_of_list`), in brackets the exact fractions; the variance is divided by the count. The 99th
+percentile is not the library's: it is the least result that at least 99 in 100 trials did not exceed.
 
-| n | d | trials | least | mean | variance | 99th percentile | greatest | f(d) | 1 + d(d − 1)/2 | d·d |
-|--:|--:|--:|--:|--:|--:|--:|--:|--:|--:|--:|
+| n | d | trials | least | mean | variance | 99th percentile | greatest | f(d) |
+|--:|--:|--:|--:|--:|--:|--:|--:|--:|
 ";
 
 fn main_table(results: &[Results]) -> String {
     let mut text = String::from(MAIN_TEXT);
     for row in results {
-        let (n, d, bounds) = (row.n, dimension(row.n), bound_cells(row.n));
+        let (n, d, worst) = (row.n, dimension(row.n), worst_case(Wiring::Cube, row.n));
         let Summary {
             figures,
             percentile,
@@ -299,7 +297,7 @@ fn main_table(results: &[Results]) -> String {
         let (mean, variance) = (decimal(figures.mean), decimal(figures.variance));
         let _ = writeln!(
             text,
-            "| {n} | {d} | {count} | {least} | {mean} | {variance} | {percentile} | {greatest} | {bounds} |"
+            "| {n} | {d} | {count} | {least} | {mean} | {variance} | {percentile} | {greatest} | {worst} |"
         );
     }
     text
@@ -311,19 +309,13 @@ fn bounds(n: usize) -> [u32; 3] {
     [worst_case(Wiring::Cube, n), 1 + d * (d - 1) / 2, d * d]
 }
 
-fn bound_cells(n: usize) -> String {
-    let [worst, triangle, square] = bounds(n);
-    format!("{worst} | {triangle} | {square}")
-}
-
 const SLOWEST_TEXT: &str = "## The slowest plants
 
-A plant of each size from 3 to 64 in `samples/slowest.txt`, with many boards dead at once and the turns in an unlucky order: the dead boards
-crash first, then come the turns. Each takes f(d) rounds, and none can take more. From 17 boards on more rounds are needed than d.
-`samples/slowest 11 | ./watch` runs the plant of 11 boards.
+A plant of each size from 3 to 64 in `samples/slowest.txt`, with many boards dead at once and the turns in an unlucky order. Each takes f(d)
+rounds, and none can take more. `samples/slowest 11 | ./watch` runs the plant of 11 boards.
 
-| n | live | rounds until known | d | f(d) | 1 + d(d − 1)/2 | d·d |
-|--:|--:|--:|--:|--:|--:|--:|
+| n | live | rounds until known | d | f(d) |
+|--:|--:|--:|--:|--:|
 ";
 
 /// A row for neighbouring sizes with the same d and the same rounds.
@@ -333,8 +325,8 @@ fn slowest_table(slowest: &[Slowest]) -> String {
     for plants in slowest.chunk_by(|one, next| key(one) == key(next)) {
         let sizes = range(plants.iter().map(|plant| plant.n));
         let live = range(plants.iter().map(|plant| plant.n - plant.dead));
-        let ((d, rounds), bounds) = (key(&plants[0]), bound_cells(plants[0].n));
-        let _ = writeln!(text, "| {sizes} | {live} | {rounds} | {d} | {bounds} |");
+        let ((d, rounds), worst) = (key(&plants[0]), worst_case(Wiring::Cube, plants[0].n));
+        let _ = writeln!(text, "| {sizes} | {live} | {rounds} | {d} | {worst} |");
     }
     text
 }
@@ -352,10 +344,9 @@ fn order_table(results: &[Results]) -> String {
     let mut text = String::from(
         "## Other orders of turns
 
-Mean, in brackets as the exact fraction, and greatest over random plants. Whole passes: each board takes its pass in one go, in an order
-drawn anew for each round, or by rising or falling number. Delaying: each turn is taken by a board whose turn adds the fewest suspicions to
-the table (an eighth of the trials). Driven: the library grants the turns (`vcube_drive`). Each round is one drive; the first begins with
-last number 255, and each further one with the last number that the one before gave.
+Mean and greatest over random plants. Whole passes: each board takes its pass in one go, in an order drawn anew for each round, or by rising
+or falling number. Delaying: each turn is taken by a board whose turn adds the fewest suspicions to the table (an eighth of the trials).
+Driven: the library grants the turns (`vcube_drive`), each round by one drive.
 
 | n | random | whole passes | rising passes | falling passes | delaying | driven |
 |--:|--:|--:|--:|--:|--:|--:|
@@ -374,9 +365,9 @@ last number 255, and each further one with the last number that the one before g
 
 const RING_TEXT: &str = "## Cube and ring
 
-The same dead boards on both wirings, with turns at random: mean, in brackets as the exact fraction, and greatest. The worst-case latency of the
-ring is ⌊n/2⌋ rounds, and at each size from 3 to 64 a plant takes it, with board 0 dead: in each round every live board takes its pass in one go,
-those first that are farther from board 0, so that the suspicion of it spreads by one board on either side.
+The same dead boards on both wirings, with turns at random: mean and greatest. The worst-case latency of the ring is ⌊n/2⌋ rounds, and at
+each size from 3 to 64 a plant takes it, with board 0 dead: in each round every live board takes its pass in one go, those first that are
+farther from board 0, so that the suspicion of it spreads by one board on either side.
 
 | n | cube | slowest on the cube | f(d) | ring | slowest on the ring | ⌊n/2⌋ |
 |--:|--:|--:|--:|--:|--:|--:|
@@ -400,9 +391,8 @@ fn ring_table(results: &[Results], [on_cube, on_ring]: &[Vec<Slowest>; 2]) -> St
 
 const GRANTS_TEXT: &str = "## In grants
 
-The grants from the death of a board until every live board suspects exactly the dead ones, beside the most that is proved (rule Turns from a
-crash, [RULES](RULES.md#what-is-claimed)): one round more than the worst-case latency, each with the tests of the live boards and one turn
-more for each of them. Every turn is granted by the library (`vcube_grant`). A plant that took more than is proved stops the program.
+The grants (`vcube_grant`) from the death of a board until every live board suspects exactly the dead ones, beside the most that is proved
+([RULES, Turns from a crash](RULES.md#what-is-claimed)). A plant that took more would stop the program.
 
 All crashes: in the first round of a fresh plant each board dies at each moment, with each number as the last granted one. Random plants:
 any last granted number, in half of them boards dead from the start, whole rounds up to the worst-case latency, then fewer grants than a round
