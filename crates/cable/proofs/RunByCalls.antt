@@ -179,7 +179,7 @@ closing w n t b hold size long lines =
 
 -- an entry that is taken
 module _ (w : Wiring) (n : ℕ) (s : State) (b : Lines) (hold : Hold n s.table b) (e : Entry) (a : Accepted w n s.table)
-(taken : entry_refusal n s e ≡ 0) where
+    (taken : entry_refusal n s e ≡ 0) where
   takes : Takes n s e
   takes = entry-facts n s e taken
 

@@ -49,7 +49,7 @@ counts_start n t =
 
 -- a taken turn keeps it
 module _ (w : Wiring) (n : ℕ) (s : State) (e : Entry) (o : ℕ) (t₀ t' : List ℕ) (cur : List Taken) (no_crash : is_crash e ≡ false)
-(below : e.station < n)
+    (below : e.station < n)
     (unfinished : finished n s.table e.station ≡ 0) (heads : Heads w n s.table t' e.station o (makes_test w n s.table e.station))
     (c : Counts n t₀ cur s.table) where
   abbrev t : List ℕ

@@ -35,7 +35,7 @@ use Rattle.detection.proofs.RoundKnowledge.{InRound, restart, TurnTaken, turn-in
 
 -- the rounds r from the one that starts with t₀ on, to the table `end`; L is the live set, and Gives says what each closed round gave
 pub record Course (w : Wiring) (n : ℕ) (L : ℕ → Bool) (Gives : List ℕ → List Taken → List ℕ → Type 0) (t₀ : List ℕ) (r : Rounds)
-(end : List ℕ) : Type 0 where
+    (end : List ℕ) : Type 0 where
   -- the table at the start of each round
   pub start : ℕ → List ℕ
   pub begins : start 0 ≡ t₀
@@ -63,7 +63,7 @@ start_with t f (suc q) = f q
 
 -- what is shown of the round `here`, which starts with t₀ and closes with the table t₁
 record ClosedRound (w : Wiring) (n : ℕ) (L : ℕ → Bool) (Gives : List ℕ → List Taken → List ℕ → Type 0) (t₀ t₁ : List ℕ)
-(here : List Taken) : Type 0 where
+    (here : List Taken) : Type 0 where
   pub gave : Gives t₀ here t₁
   pub opened : (first_table here ≡ t₀) × Plain w n L t₀
   pub turns : (i : ℕ) → i < n → TurnsOk n i here
@@ -114,7 +114,7 @@ cut-done w n L K t₀ cur s size inv = (
 
 -- a taken entry that is no crash and no late reply, in a table in which no live station suspects a live one: a turn of a live station
 module _ (w : Wiring) (n : ℕ) (L : ℕ → Bool) (company : Company n L) (s : State) (e : Entry) (ok : Accepted w n s.table)
-(takes : entry_refusal n s e ≡ 0)
+    (takes : entry_refusal n s e ≡ 0)
     (p : Plain w n L s.table) (no_crash : is_crash e ≡ false) (in_time : is_late (taken_at w n s e) ≡ false) where
   facts : Takes n s e
   facts = entry-facts n s e takes
@@ -145,7 +145,7 @@ module _ (w : Wiring) (n : ℕ) (L : ℕ → Bool) (company : Company n L) (s : 
 
 -- such an entry within a round
 module _ (w : Wiring) (n : ℕ) (L : ℕ → Bool) (K : RoundKnowledge w n L) (company : Company n L) (t₀ : List ℕ) (cur : List Taken) (s : State)
-(e : Entry)
+    (e : Entry)
     (ok : Accepted w n s.table) (takes : entry_refusal n s e ≡ 0) (inv : InRound w n L t₀ cur s.table) (know : K.Knows t₀ cur s.table)
     (no_crash : is_crash e ≡ false) (in_time : is_late (taken_at w n s e) ≡ false) where
   abbrev t : List ℕ

@@ -104,7 +104,7 @@ rounds-from w n s calls given ok K =
 
 -- the claim, on a wiring on which `enough` rounds are enough, and after so many the closed ones have the count of tests
 module _ (w : Wiring) (n : ℕ) (s : State) (calls : List Call) (given : DetectionPremises w n s calls) (K : RoundKnowledge w n (live n s.table))
-(enough : ℕ)
+    (enough : ℕ)
     (known : K.enough ≤ enough) (from : K.counted_from ≤ counted_from w enough) (count : K.count ≡ count_of w n s.table) where
   abbrev L : ℕ → Bool
   L = live n s.table

@@ -30,7 +30,7 @@ abbrev pub RoundOf : ℕ → (ℕ → Bool) → List ℕ → List Taken → List
 RoundOf n L t₀ round t₁ = RingStep n L (Row n t₀) (Row n t₁) × (tests_in round ≡ n)
 
 module _ (w : Wiring) (n : ℕ) (L : ℕ → Bool) (on-ring : is_ring w ≡ true) (two : 2 ≤ n) (company : Company n L) (z : ℕ) (hz : z < n)
-(lz : L z ≡ true) where
+    (lz : L z ≡ true) where
   pub closed-gives : (t₀ t : List ℕ) (round : List Taken) → InRound w n L t₀ round t → KnowsOf n L t₀ t → round_over n t ≡ true
       → RoundOf n L t₀ round (reset_lines n t)
   closed-gives t₀ t round inv know over =

@@ -95,7 +95,7 @@ module _ (n : ℕ) (t : List ℕ) (i x : ℕ) (long : length t ≡ table_length 
 
 -- the test of x by the live i
 module _ (w : Wiring) (n : ℕ) (L : ℕ → Bool) (t : List ℕ) (i x : ℕ) (p : Plain w n L t) (hi : i < n) (hx : x < n) (apart : i ≢ x)
-(li : L i ≡ true) where
+    (li : L i ≡ true) where
   long : length t ≡ table_length n
   long = p.lines.0
 
