@@ -1,9 +1,8 @@
-//! What the programs of the harness share: random numbers, sizes and groups, wirings, a view of a table's lines, schedules, grants, the slowest
+//! What the programs of the harness share: random numbers, sizes and groups, wirings, a view of a table's lines, schedules, the slowest
 //! plants, and the words of a command.
 
 #![forbid(unsafe_code)]
 
-pub mod grants;
 pub mod groups;
 pub mod options;
 pub mod random;

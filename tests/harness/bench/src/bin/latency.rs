@@ -8,15 +8,15 @@
 
 use bench::detection::{random_dead, rounds_of_slowest, rounds_until_known, worst_case, Order};
 use bench::grants::{self, Taken};
-use bench::pictures;
 use shared::groups::dimension;
 use shared::random::Random;
 use shared::slowest;
-use shared::wiring::Wiring;
-use std::fmt::Write;
-use std::process::ExitCode;
-use std::{fs, thread};
-use vcube::{Figures, Fraction, MOST_RESULTS};
+use std::fmt::Write as _;
+use std::fs::{self, File};
+use std::io::Write as _;
+use std::process::{Command, ExitCode, Stdio};
+use std::thread;
+use vcube::{Figures, Fraction, Wiring, MOST_RESULTS};
 
 const SEED: u64 = 1;
 
@@ -170,7 +170,7 @@ fn at_once<T: Send, R: Send>(items: Vec<T>, make: impl Fn(T) -> R + Sync) -> Vec
 /// Counts grants on both wirings, or says which plant took more than is proved.
 fn try_grants(quick: bool) -> Result<Vec<Grants>, String> {
     let on = |wiring| GRANT_SIZES.map(|n| (wiring, n));
-    let sizes = Wiring::ALL.map(on).concat();
+    let sizes = [on(Wiring::Cube), on(Wiring::Ring)].concat();
     let all = at_once(sizes, |(wiring, n)| try_crashes(wiring, n, quick));
     all.into_iter().collect()
 }
@@ -218,26 +218,69 @@ fn try_order(wiring: Wiring, n: usize, order: Order, trials: usize) -> Summary {
 
 fn write_files(
     results: &[Results],
-    [on_cube, on_ring]: &[Vec<Slowest>; 2],
+    slowest: &[Vec<Slowest>; 2],
     grants: &[Grants],
     tables: &str,
 ) -> Result<(), String> {
     let text = format!("{HEAD}{tables}");
     fs::write("docs/latency.md", text).map_err(|error| format!("docs/latency.md: {error}"))?;
-    let points = results.iter().map(|row| pictures::Point {
-        n: row.n,
-        observed: row.by_order[0].figures,
-        slowest: [rounds_of(on_cube, row.n), rounds_of(on_ring, row.n)],
-        bounds: bounds(row.n),
-        worst_on_ring: worst_case(Wiring::Ring, row.n),
-    });
-    pictures::draw_rounds("docs/latency.svg", points)?;
-    let rows = grants.iter().map(|row| pictures::Row {
-        name: format!("{} {}", row.wiring.text(), row.n),
-        searched: row.searched.as_ref().map(|all| grants::nearest(all)),
-        random: grants::nearest(&row.random),
-    });
-    pictures::draw_grants("docs/latency-grants.svg", rows)
+    let of_size = |row: &Results| {
+        let Figures {
+            least,
+            greatest,
+            mean,
+            ..
+        } = row.by_order[0].figures;
+        let (n, mean, worst_on_ring) = (row.n, mean.value(), worst_case(Wiring::Ring, row.n));
+        let [cube, ring] = [0, 1].map(|wiring| or_none(rounds_of(&slowest[wiring], n), "-"));
+        let [worst, triangle, square] = bounds(n);
+        format!("{n} {least} {mean} {greatest} {cube} {ring} {worst} {triangle} {square} {worst_on_ring}\n")
+    };
+    let script = include_str!("../../pictures/rounds.gnuplot");
+    let lines = results.iter().map(of_size).collect();
+    draw("docs/latency.svg", "$rounds", lines, script)?;
+    let both = |taken: Taken| format!("{} {}", taken.grants, taken.bound);
+    let of_plants = |row: &Grants| {
+        let searched = row.searched.as_ref().map(|all| both(grants::nearest(all)));
+        let (searched, random) = (
+            searched.unwrap_or("- -".into()),
+            grants::nearest(&row.random),
+        );
+        let (wiring, n) = (row.wiring, row.n);
+        format!("\"{wiring} {n}\" {searched} {}\n", both(random))
+    };
+    let script = include_str!("../../pictures/grants.gnuplot");
+    let lines = grants.iter().map(of_plants).collect();
+    draw("docs/latency-grants.svg", "$grants", lines, script)
+}
+
+/// The number, or what stands for none.
+fn or_none(number: Option<u32>, none: &str) -> String {
+    number.map_or(none.into(), |number| number.to_string())
+}
+
+/// Draws these lines by a script that has them under this name.
+fn draw(path: &str, name: &str, lines: String, script: &str) -> Result<(), String> {
+    let drawn = || {
+        let mut gnuplot = Command::new("gnuplot")
+            .stdin(Stdio::piped())
+            .stdout(File::create(path)?)
+            .spawn()?;
+        let text = format!("{name} << END\n{lines}END\n{script}");
+        gnuplot
+            .stdin
+            .take()
+            .expect("a pipe")
+            .write_all(text.as_bytes())?;
+        gnuplot.wait()
+    };
+    match drawn() {
+        Ok(status) if status.success() => Ok(()),
+        Ok(status) => Err(format!("{path}: gnuplot ended with {status}")),
+        Err(error) => Err(format!(
+            "{path}, by gnuplot (Debian's package gnuplot-nox): {error}"
+        )),
+    }
 }
 
 fn tables(results: &[Results], slowest: &[Vec<Slowest>; 2], grants: &[Grants]) -> String {
@@ -388,7 +431,7 @@ fn ring_table(results: &[Results], [on_cube, on_ring]: &[Vec<Slowest>; 2]) -> St
         let n = row.n;
         let cells = |summary: &Summary, slowest, wiring| {
             let mean = summary.mean_and_greatest();
-            let slowest = rounds_of(slowest, n).map_or(String::from("–"), |k| k.to_string());
+            let slowest = or_none(rounds_of(slowest, n), "–");
             format!("{mean} | {slowest} | {}", worst_case(wiring, n))
         };
         let cube = cells(&row.by_order[0], on_cube, Wiring::Cube);
@@ -417,7 +460,7 @@ can have, then one more board dies. The nearest is the plant that came nearest t
 fn grants_table(grants: &[Grants]) -> String {
     let mut text = String::from(GRANTS_TEXT);
     for row in grants {
-        let (wiring, n) = (row.wiring.text(), row.n);
+        let (wiring, n) = (row.wiring, row.n);
         let searched = row.searched.as_ref().map_or(String::from("– | –"), |all| {
             format!("{} | {}", all.len(), grants::greatest(all).grants)
         });
