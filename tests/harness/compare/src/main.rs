@@ -53,11 +53,7 @@ fn work(options: &Options) -> Result<String, String> {
 fn described(source: Source, number: u64) -> String {
     let call = source.call(number);
     let answer = answer::answer(&call);
-    format!(
-        "call {number}: {}{}",
-        printed::call(&call),
-        printed::answer(&call, &answer)
-    )
+    format!("call {number}: {}", printed::call(&call, &answer))
 }
 
 fn write(options: &Options, path: &Path) -> io::Result<String> {
