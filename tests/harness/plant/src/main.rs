@@ -11,6 +11,7 @@ use std::io::{Read, Write};
 use std::process::ExitCode;
 
 const NONE: u8 = 255;
+const CRASH: u8 = 3;
 
 struct Plant {
     wiring: usize,
@@ -48,7 +49,9 @@ impl Plant {
             return Err(answer.number);
         }
         self.tally = (answer.rounds, answer.tests);
-        self.last = entry[1];
+        if entry[0] != CRASH {
+            self.last = entry[1];
+        }
         Ok(sheet)
     }
 
