@@ -426,7 +426,7 @@ calls-keep w n i l z =
           (unless-good w n i (replied_check w n i l (length p)) l (turn_of w n i l (row_in w n i l p)) g
           (λ e. turn-good w n i l (row_in w n i l p) g (turn-going w n i l (replied-turn w n i l (length p) e))
           (λ r q. same-good n (tested w n i l) p r q)));
-      silent = checked w n i _
+      not_replied = checked w n i _
           (unless-good w n i (turn_check w n i l) l (turn_of w n i l None) g
           (λ e. turn-good w n i l None g (turn-going w n i l e) (λ r q. absurd (none-some r q))));
       told = λ b. checked w n i _

@@ -6,7 +6,7 @@ use Rattle.board.specs.Calls.{place_check, line_check, fresh_after, replied_afte
 -- a line that is let through is let through after each of the calls, on the same wiring, size and number; packed and b are any
 pub record StaysALine (w n i : ℕ) (l : List ℕ) : Type 0 where
   pub replied : (packed : List ℕ) → line_check w n i (replied_after w n i l packed) ≡ Ok tt
-  pub silent : line_check w n i (not_replied_after w n i l) ≡ Ok tt
+  pub not_replied : line_check w n i (not_replied_after w n i l) ≡ Ok tt
   pub told : (b : ℕ) → line_check w n i (told_after w n i l b) ≡ Ok tt
   pub exchanged : (b : ℕ) (packed : List ℕ) → line_check w n i (exchanged_after w n i l b packed) ≡ Ok tt
   pub closed : line_check w n i (closed_after w n i l) ≡ Ok tt

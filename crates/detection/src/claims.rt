@@ -49,7 +49,7 @@ pub fn driven()
 {}
 
 // Who leaves after a test with a reply (specs/Exits.antt).
-pub fn exits()
+pub fn reply_ends()
     // Where a tested station replies: by who suspects whom, which of the two leaves, and what becomes of the rows.
     ensures { ReplyEnds }
 {}

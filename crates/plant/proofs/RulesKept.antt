@@ -54,8 +54,7 @@ entry_ok n s e x z =
       is_live = ensure_ok _ _ _ d.0;
       unfinished = λ k f.
           let z : true ≡ false = rw (ne_eqb e.kind 3 k, eq-eqb (finished n s.table e.station) 1 f) at last in
-          let z : ◌≡◌ {A = ℕ} 0 1 = cc in
-          omega arith;
+          cc;
     }
 
 pub entry-facts : (n : ℕ) (s : State) (e : Entry) → entry_refusal n s e ≡ 0 → Takes n s e

@@ -16,7 +16,7 @@ use table::{Distance, Station, sizes};
 
 // Whether the row leaves station x not suspected. Past the row's end a station is absent.
 #[tactic(auto, unfolding(crate::specs::Tests::unsuspected))]
-fn is_unsuspected(row: &[u8], x: Station) -> bool
+pub fn is_unsuspected(row: &[u8], x: Station) -> bool
     ensures { result ≡ unsuspected row.now x.0 }
 {
     row.get(x.0 as usize).copied().unwrap_or(1) == 0

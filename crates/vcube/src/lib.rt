@@ -60,14 +60,14 @@ const NO_STATION: u8 = 255;
 // The version of the library, as in include/vcube.h.
 const MAJOR: u32 = 1;
 
-const MINOR: u32 = 3;
+const MINOR: u32 = 4;
 
 const PATCH: u32 = 0;
 
 // Version: that of the library, as one number.
 #[unsafe(no_mangle)]
 pub extern "C" fn vcube_version() -> u32
-    ensures { result ≡ version_number 1 3 0 }
+    ensures { result ≡ version_number 1 4 0 }
 {
     10000 * MAJOR + 100 * MINOR + PATCH
 }

@@ -1,4 +1,4 @@
--- Each claim is a law of the file that it is taken from.
+-- The claims, each a law of proofs/.
 use Rattle.mender.proofs.MendedLaws.{mended-passes, good-stays, mended-length, status-mended, suspects-mended, suspicion-was}
 use Rattle.std.proofs.Common.{ap, ◌∙◌, sym, arith, length, refl}
 use Rattle.table.proofs.Accepting.{table_ok}

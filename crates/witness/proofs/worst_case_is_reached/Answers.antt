@@ -1,6 +1,6 @@
--- Each claim is a law of the file that it is taken from.
+-- The claims, each a law of proofs/.
 use Rattle.witness.proofs.Reached.{worst-case-is-reached}
-use Rattle.witness.proofs.worst_case.Goals as goal
+use Rattle.witness.proofs.worst_case_is_reached.Goals as goal
 
 pub returns : goal.returns
 returns c = worst-case-is-reached

@@ -1,7 +1,7 @@
--- Each claim is a law of the file that it is taken from.
+-- The claims, each a law of proofs/.
 use Rattle.figures.proofs.Answers.{mean_lowest, variance_lowest}
 use Rattle.figures.proofs.Extremes.{least_extreme, greatest_extreme}
-use Rattle.figures.proofs.claims.results.Goals as goal
+use Rattle.figures.proofs.claims.figures_of_results.Goals as goal
 
 pub returns-clause-mean_lowest : goal.returns-clause-mean_lowest
 returns-clause-mean_lowest c = mean_lowest

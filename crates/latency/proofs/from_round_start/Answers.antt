@@ -1,7 +1,7 @@
--- Each claim is a law of the file that it is taken from.
+-- The claims, each a law of proofs/.
 use Rattle.latency.proofs.Lists.{rounds-within-list, known-within, mixed-known-within}
 use Rattle.latency.proofs.Drives.{drive-within, drives-known-within}
-use Rattle.latency.proofs.within.Goals as goal
+use Rattle.latency.proofs.from_round_start.Goals as goal
 
 -- The law itself.
 pub returns-clause-rounds_within : goal.returns-clause-rounds_within

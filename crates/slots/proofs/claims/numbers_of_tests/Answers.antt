@@ -1,4 +1,4 @@
--- Each claim is a law of the file that it is taken from.
+-- The claims, each a law of proofs/.
 use Rattle.slots.proofs.DigitLaws.{due-by-digits}
 use Rattle.slots.proofs.UntestedLaws.{nobody-left-out, lists-counted}
 use Rattle.slots.proofs.Counts.{tests-by-levels, tests-at-most}
@@ -6,7 +6,7 @@ use Rattle.slots.proofs.OneDead.{nobody-suspected, one-suspected, one-suspected-
 use Rattle.slots.proofs.AllBoards.{most-of-powers}
 use Rattle.slots.proofs.LastBoard.{last-tests-all}
 use Rattle.slots.proofs.MoreTests.{never-fewer, most-is-no-less, most-covers}
-use Rattle.slots.proofs.claims.tests.Goals as goal
+use Rattle.slots.proofs.claims.numbers_of_tests.Goals as goal
 
 pub returns-clause-due_by_digits : goal.returns-clause-due_by_digits
 returns-clause-due_by_digits c = due-by-digits
