@@ -29,9 +29,14 @@ use replayer::{Difference, Replayer, COPIES};
 fn main() -> ExitCode {
     match Options::read().and_then(|options| work(&options)) {
         // The record stands there.
-        Ok(text) if text.is_empty() => ExitCode::SUCCESS,
-        said => shared::options::end(said),
+        Ok(text) if text.is_empty() => {}
+        Ok(text) => println!("{text}"),
+        Err(text) => {
+            eprintln!("{text}");
+            return ExitCode::FAILURE;
+        }
     }
+    ExitCode::SUCCESS
 }
 
 fn work(options: &Options) -> Result<String, String> {
