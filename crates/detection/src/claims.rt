@@ -16,7 +16,7 @@ pub fn detection()
     ensures detection_in_triangle { DetectionInTriangle }
     // The same within the worst-case latency on the cube, n/2 rounds on the ring.
     ensures detection_in_worst_case { Detection worst_rounds }
-    // A fresh table of any size passes refusals 24 and 1 to 4, on each wiring.
+    // A fresh table of any size passes refusals 1 to 4, on each wiring.
     ensures fresh_is_accepted { FreshIsAccepted }
     // A fresh table, with any tally, meets the detection conditions on a table.
     ensures fresh_meets_premises { FreshMeetsPremises }
