@@ -1,0 +1,5 @@
+-- What the contracts of `single_crash` cite.
+pub mod Sweeps
+pub mod Setting
+pub mod Drives
+pub mod Ring
