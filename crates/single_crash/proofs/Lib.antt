@@ -1,2 +1,4 @@
 -- The laws that the proofs of `single_crash` share.
 pub mod Sweeps
+pub mod CubeDue
+pub mod CubePace
