@@ -1,0 +1,299 @@
+-- A plant under the bus master in which no live board suspects a live one: what a grant with its turn does, and a crash, whatever the wiring.
+-- Assumes nothing.
+use mathlib.Core.Path.{◌≡◌, refl, sym, ap, ◌∙◌}
+use mathlib.Core.Logic.{◌≢◌, by_cases}
+use mathlib.Core.Bool.{Bool, true, false, not, true≢false}
+use mathlib.Core.List.{List}
+use Prim.Native.Nat.{ℕ, suc, ◌+◌, ◌≤◌, ◌<◌}
+use native.Mathlib.Decide.{ℕ_discrete}
+use native.Mathlib.Numerals.{add-one}
+use native.Mathlib.Omega.{arith}
+use borrow.Author.Tests.{eqb-true, eqb-false, eq-eqb, ne_eqb}
+use lib.Dec.{eqb}
+use lib.Seq.{ext_get_or}
+use Rattle.std.specs.Prelude.{Ok}
+use Rattle.lists.specs.Sums.{bit}
+use Rattle.lists.proofs.BoolLaws.{by_bool}
+use Rattle.lists.proofs.SearchLaws.{every-all, every-not, list_of-length, list_of-at}
+use Rattle.table.specs.Sizes.{is_size}
+use Rattle.table.specs.Wiring.{wiring_check}
+use Rattle.table.specs.Table.{head, stride, cell, status_column, next_column, finished_column, tests_column, finished, tests_made, suspects, live, row}
+use Rattle.table.specs.Table.{status_crashed}
+use Rattle.table.specs.Rules.{wired_line_rules, not_live, some_live, round_over}
+use Rattle.table.specs.Properties.{exact_row}
+use Rattle.table.proofs.SizeLaws.{size-bounds}
+use Rattle.table.proofs.Accepting.{Accepted}
+use Rattle.table.proofs.CellLaws.{cell_same, cell_other, row-length, row_at, line-holds}
+use Rattle.plant.specs.Turn.{kind_turn, kind_crash, next_test, makes_test, outcome_at, turn, crash}
+use Rattle.plant.specs.Round.{reset_lines, after_round}
+use Rattle.plant.specs.Entry.{state_of, acted, after}
+use Rattle.plant.proofs.RunLaws.{accepted-number}
+use Rattle.plant.proofs.RulesKept.{unfinished-open}
+use Rattle.plant.proofs.RoundLaws.{Reset, reset-cells}
+use Rattle.plant.proofs.StepLines.{leave-lines}
+use Rattle.plant.proofs.TurnHeads.{Heads, turn-heads}
+use Rattle.granter.specs.Grant.{no_grant, waits, following, last_refusal, grant_refusal}
+use Rattle.granter.specs.Drive.{Stand, stand_at, granted_at, grant_turn}
+use Rattle.granter.proofs.GrantLaws.{granted-waits, waits-parts, grant-zero, station-fits, last-below}
+use Rattle.granter.proofs.Fair.{next-going-round}
+use Rattle.detection.proofs.TurnEffect.{Plain, Company, Grown, Exact, TurnKept, turn-effect}
+use Rattle.detection.proofs.RoundKnowledge.{reset-rows}
+use Rattle.single_crash.specs.Sweeps.{turns_made}
+use Rattle.single_crash.specs.Setting.{crash_at, KnownDead}
+use Rattle.single_crash.proofs.Sweeps.{InSweep, sweep-start, Next, Moved, sweep-next, sweep-fewer}
+
+-- wiring and size, and who is live: each live board has another one beside it
+pub record Crew (w n : ℕ) (L : ℕ → Bool) : Type 0 where
+  pub wired : wiring_check w ≡ Ok tt
+  pub size : is_size n ≡ true
+  pub company : Company n L
+  pub someone : (z : ℕ) × (z < n) × (L z ≡ true)
+
+-- where the drive stands in a round that began at place `begins`
+pub record Running (w n : ℕ) (L : ℕ → Bool) (begins : ℕ) (p : Stand) : Type 0 where
+  pub plain : Plain w n L p.state.table
+  pub unclosed : round_over n p.state.table ≡ false
+  pub last_fits : last_refusal n p.last ≡ 0
+  pub fits : begins ≤ n
+  pub sweep : InSweep n begins (waits n p.state.table) (turns_made n p.state.table) p.last
+
+-- from p to p' a round closes, with last number g behind it; t' is the table before the closing
+pub record Closed (w n : ℕ) (L : ℕ → Bool) (t' : List ℕ) (g : ℕ) (p p' : Stand) : Type 0 where
+  pub table : p'.state.table ≡ reset_lines n t'
+  pub rounds : p'.state.rounds ≡ suc p.state.rounds
+  pub fresh : (i : ℕ) → i < n → Reset n p'.state.table i
+  pub grown : Grown n t' p'.state.table
+  pub running : Running w n L (following g) p'
+
+-- or it goes on
+pub record WentOn (w n : ℕ) (L : ℕ → Bool) (t' : List ℕ) (begins : ℕ) (p p' : Stand) : Type 0 where
+  pub table : p'.state.table ≡ t'
+  pub rounds : p'.state.rounds ≡ p.state.rounds
+  pub running : Running w n L begins p'
+
+-- where a round begins, the going round begins at n at the most
+begins-fits : (n last : ℕ) → last_refusal n last ≡ 0 → following last ≤ n
+unfolding following
+begins-fits n last fits =
+    by_bool (eqb last no_grant) (λ e. rw e (omega arith)) (λ e. rw e (omega (arith, last-below n last fits e)))
+
+module _ (w n : ℕ) (L : ℕ → Bool) (crew : Crew w n L) where
+  some-live : (t : List ℕ) → Plain w n L t → some_live n t ≡ true
+  unfolding some_live
+  some-live t p =
+      let z = crew.someone in
+      let lives : not_live n t z.0 ≡ false = rw (p.lives z.0 z.1 ∙ z.2) refl in
+      rw (every-not (not_live n t) n z.0 z.1 lives)
+
+  accepted : (t : List ℕ) → Plain w n L t → round_over n t ≡ false → Accepted w n t
+  accepted t p unclosed = record {
+    wired = crew.wired;
+    size = crew.size;
+    long = p.lines.0;
+    lines = every-all (wired_line_rules w n t) n (λ i h. line-holds w n t i (p.lines.1 i h));
+    unclosed = unclosed;
+  }
+
+  -- where a round begins
+  pub begin : (p : Stand) → Plain w n L p.state.table → ((i : ℕ) → i < n → Reset n p.state.table i) → last_refusal n p.last ≡ 0
+      → Running w n L (following p.last) p
+  begin p plain fresh fits = record {
+    plain = plain;
+    unclosed = unfinished-open n p.state.table (λ i h. (fresh i h).unfinished);
+    last_fits = fits;
+    fits = begins-fits n p.last fits;
+    sweep =
+        sweep-start n p.last (waits n p.state.table) (turns_made n p.state.table) (begins-fits n p.last fits)
+        (λ i h. omega (arith, (fresh i h).untested, (fresh i h).unfinished));
+  }
+
+  -- the next grant, with its turn
+  module _ (begins : ℕ) (p : Stand) (r : Running w n L begins p) where
+    abbrev t : List ℕ
+    t = p.state.table
+
+    abbrev g : ℕ
+    g = granted_at n p
+
+    abbrev t' : List ℕ
+    t' = turn w n t kind_turn g
+
+    abbrev outcome : ℕ
+    outcome = outcome_at w n t kind_turn g (next_test w n t g)
+
+    pub chosen : (g < n) × (waits n t g ≡ true)
+    chosen = granted-waits n t r.unclosed (some-live t r.plain) p.last
+
+    pub is_live : L g ≡ true
+    is_live = sym (r.plain.lives g chosen.0) ∙ (waits-parts n t g chosen.1).0
+
+    pub going : finished n t g ≡ 0
+    going =
+        let open-pass = eqb-false (finished n t g) 1 (waits-parts n t g chosen.1).1 in
+        omega (arith, open-pass, (r.plain.lines.1 g chosen.0).pass.finished_range)
+
+    pub kept : TurnKept w n L t t' g outcome
+    kept = turn-effect w n L t kind_turn g r.plain crew.company chosen.0 is_live going (λ a b. refl)
+
+    pub heads : Heads w n t t' g outcome (makes_test w n t g)
+    heads = turn-heads w n t kind_turn g r.plain.lines chosen.0
+
+    -- it is the next in its sweep
+    pub next : Next n (waits n t) p.last g
+    next =
+        let zero = grant-zero w n t p.last (accepted-number w n t (accepted t r.plain r.unclosed)) r.last_fits (some-live t r.plain) in
+        record { below = chosen.0; waiting = chosen.1; nearest = (next-going-round w n t p.last zero).2 }
+
+    -- who waits after its turn waited before
+    waited : (i : ℕ) → i < n → waits n t' i ≡ true → waits n t i ≡ true
+    unfolding waits
+    waited i h e =
+        by_cases (ℕ_discrete i g) (λ q. rw q chosen.1)
+        (λ d.
+        let lives : live n t' i ≡ live n t i = kept.plain.lives i h ∙ sym (r.plain.lives i h) in
+        let finished : finished n t' i ≡ finished n t i = heads.others i finished_column d (omega arith) in
+        rw (lives, finished) at e)
+
+    pub moved : Moved n (waits n t) (waits n t') (turns_made n t) (turns_made n t') g
+    moved = record {
+      waited = waited;
+      own = by_bool (makes_test w n t g) (λ e. omega (arith, going, rw e at heads.tests, rw e at heads.finish))
+          (λ e. omega (arith, going, rw e at heads.tests, rw e at heads.finish));
+      others = λ i h d. omega (arith, heads.others i finished_column d (omega arith), heads.others i tests_column d (omega arith));
+    }
+
+    abbrev p' : Stand
+    p' = grant_turn w n p
+
+    -- by it the round closes, or goes on
+    pub closes : round_over n t' ≡ true → Closed w n L t' g p p'
+    unfolding grant_turn after acted after_round
+    closes over =
+        let fresh = reset-cells n t' kept.plain.lines.0 in
+        let rows = reset-rows w n L t' kept.plain in
+        rw over (record {
+          table = refl;
+          rounds = add-one p.state.rounds;
+          fresh = fresh;
+          grown = rows.1;
+          running = begin (stand_at (state_of (reset_lines n t') _ _) g) rows.0 fresh (station-fits n g chosen.0);
+        })
+
+    pub goes_on : round_over n t' ≡ false → WentOn w n L t' begins p p'
+    unfolding grant_turn after acted after_round
+    goes_on unclosed =
+        rw unclosed (record {
+          table = refl;
+          rounds = refl;
+          running = record {
+            plain = kept.plain;
+            unclosed = unclosed;
+            last_fits = station-fits n g chosen.0;
+            fits = r.fits;
+            sweep =
+                sweep-next n begins (waits n t) (turns_made n t) p.last g r.fits r.sweep next (waits n t') (turns_made n t')
+                (size-bounds n crew.size).1 moved;
+          };
+        })
+
+    -- what was known stays known
+    pub stays_known : Exact n L t → Exact n L p'.state.table
+    stays_known exact =
+        let now : Exact n L t' = λ i j h g a b. kept.grows i j h g (exact i j h g a b) in
+        by_bool (round_over n t')
+        (λ over. λ i j h g a b. (closes over).grown i j h g (now i j h g a b))
+        (λ unclosed. rw (goes_on unclosed).table now)
+
+    -- and a drive runs on
+    pub runs_on : (b : ℕ) × Running w n L b p'
+    runs_on = by_bool (round_over n t') (λ over. (_, (closes over).running)) (λ unclosed. (_, (goes_on unclosed).running))
+
+-- every board, and every board but b
+abbrev pub everyone : ℕ → Bool
+everyone i = true
+
+abbrev pub all_but : ℕ → ℕ → Bool
+all_but b i = not (eqb i b)
+
+-- b crashes in a plant whose boards are all live, and in which nobody suspects anybody
+module _ (w n b begins : ℕ) (q : Stand) (crew : Crew w n (all_but b)) (hb : b < n) (r : Running w n everyone begins q) where
+  abbrev t : List ℕ
+  t = q.state.table
+
+  abbrev t' : List ℕ
+  t' = crash n t b
+
+  same : (k c : ℕ) → c < stride n → (b ≡ k → c ≢ status_column) → cell n t' k c ≡ cell n t k c
+  unfolding crash
+  same k c h out = cell_other n t b status_column status_crashed k c (omega arith) h (λ e f. out e (sym f))
+
+  gone : live n t' b ≡ false
+  unfolding crash
+  gone = rw (cell_same n t b status_column status_crashed r.plain.lines.0 hb (omega arith)) refl
+
+  crashed-lives : (i : ℕ) → i < n → live n t' i ≡ all_but b i
+  crashed-lives i h =
+      by_cases (ℕ_discrete i b) (λ e. rw (e, eq-eqb b b refl) gone)
+      (λ d. rw (ne_eqb i b d, same i status_column (omega arith) (λ e. absurd (d (sym e)))) (r.plain.lives i h))
+
+  pub crash-plain : Plain w n (all_but b) t'
+  unfolding crash
+  crash-plain = record {
+    lines = leave-lines w n t b r.plain.lines hb (r.plain.lives b hb) status_crashed (omega arith) (omega arith) (omega arith);
+    lives = crashed-lives;
+    accurate = λ i j h g x y. same i (head + j) (omega arith) (λ e. omega arith) ∙ r.plain.accurate i j h g refl refl;
+  }
+
+  -- columns of the pass stay
+  pub crash-same : (k c : ℕ) → 1 ≤ c → c < stride n → cell n t' k c ≡ cell n t k c
+  crash-same k c lo h = same k c h (λ e. omega arith)
+
+  crash-waited : (i : ℕ) → i < n → waits n t' i ≡ true → waits n t i ≡ true
+  unfolding waits
+  crash-waited i h e = rw (crash-same i finished_column (omega arith) (omega arith)) at (rw (r.plain.lives i h) ?)
+
+  abbrev q' : Stand
+  q' = crash_at w n q b
+
+  pub crash-closes : round_over n t' ≡ true → Closed w n (all_but b) t' q.last q q'
+  unfolding crash_at after acted after_round
+  crash-closes over =
+      let fresh = reset-cells n t' crash-plain.lines.0 in
+      let rows = reset-rows w n (all_but b) t' crash-plain in
+      rw over (record {
+        table = refl;
+        rounds = add-one q.state.rounds;
+        fresh = fresh;
+        grown = rows.1;
+        running = begin w n (all_but b) crew (stand_at (state_of (reset_lines n t') _ _) q.last) rows.0 fresh r.last_fits;
+      })
+
+  pub crash-goes_on : round_over n t' ≡ false → WentOn w n (all_but b) t' begins q q'
+  unfolding crash_at after acted after_round
+  crash-goes_on unclosed =
+      rw unclosed (record {
+        table = refl;
+        rounds = refl;
+        running = record {
+          plain = crash-plain;
+          unclosed = unclosed;
+          last_fits = r.last_fits;
+          fits = r.fits;
+          sweep = ?;
+        };
+      })
+
+-- where every live board suspects every dead one, b is known
+pub known-dead : (w n b : ℕ) (t : List ℕ) → Plain w n (all_but b) t → Exact n (all_but b) t → KnownDead n t b
+unfolding exact_row
+known-dead w n b t p exact = record {
+  others_live = p.lives;
+  exact = λ i h l.
+      let others : ℕ → ℕ = λ j. bit (not_live n t j) in
+      let mine : all_but b i ≡ true = sym (p.lives i h) ∙ l in
+      let byte : (k : ℕ) → k < n → suspects n t i k ≡ others k =
+      λ k g. by_bool (all_but b k) (λ e. rw (p.lives k g, e) (p.accurate i k h g mine e)) (λ e. rw (p.lives k g, e) (exact i k h g mine e)) in
+      let long = row-length n t i p.lines.0 h in
+      ext_get_or 0 (row n t i) _ (long ∙ sym (list_of-length others n))
+      (λ k l. let g : k < n = omega arith in row_at n t i k g ∙ (byte k g ∙ sym (list_of-at others n k g)));
+}
