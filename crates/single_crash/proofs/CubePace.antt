@@ -102,11 +102,11 @@ module _ (n d b : ℕ) (L : ℕ → Bool) (a : AllBut n d b L) (t : List ℕ) (p
   unfolding makes_test
   makes-none e = rw (end, e) (le-ltb (2 ^ d) (2 ^ d) (omega arith))
 
-  module _ (paced : Paced n d b t i) (open : finished n t i ≡ 0) where
+  module _ (paced : Paced n d b t i) (unfinished : finished n t i ≡ 0) where
     -- whether it makes a test
     pub still-some : station_at i 1 ≢ b → makes_test wiring_cube n t i ≡ true → tests_made n t i < d
     still-some far e =
-        let g = paced.going far open in
+        let g = paced.going far unfinished in
         by_cases (dec_lt (tests_made n t i) d) (λ l. l)
         (λ l.
         let last : tests_made n t i ≡ d = omega (arith, g.0) in
@@ -114,7 +114,7 @@ module _ (n d b : ℕ) (L : ℕ → Bool) (a : AllBut n d b L) (t : List ℕ) (p
 
     all-made : station_at i 1 ≢ b → makes_test wiring_cube n t i ≡ false → tests_made n t i ≡ d
     all-made far e =
-        let g = paced.going far open in
+        let g = paced.going far unfinished in
         by_cases (dec_lt (tests_made n t i) d)
         (λ l.
         let next = test-at (tests_made n t i) l far g.1 in
@@ -125,7 +125,7 @@ module _ (n d b : ℕ) (L : ℕ → Bool) (a : AllBut n d b L) (t : List ℕ) (p
     first-made e =
         by_cases (ℕ_discrete (tests_made n t i) 0)
         (λ z.
-        let next = first-at (paced.first open z) in
+        let next = first-at (paced.first unfinished z) in
         absurd (true≢false (sym (makes (omega (arith, next, pow_mono {i = 1} {j = d} (omega (arith, a.levels))))) ∙ e)))
         (λ z. omega arith)
 
@@ -137,12 +137,12 @@ module _ (n d b : ℕ) (L : ℕ → Bool) (a : AllBut n d b L) (t : List ℕ) (p
         made : makes_test wiring_cube n t i ≡ true → Paced n d b t' i
         made e =
             let m : tests_made n t' i ≡ suc (tests_made n t i) = rw e at heads.tests ∙ add-one (tests_made n t i) in
-            let f : finished n t' i ≡ 0 = rw e at heads.finish ∙ open in
+            let f : finished n t' i ≡ 0 = rw e at heads.finish ∙ unfinished in
             let x : next_distance n t' i ≡ next_test wiring_cube n t i + 1 = rw e at heads.next in
             record {
               going = λ far _.
                   let l = still-some far e in
-                  let at = test-at (tests_made n t i) l far (paced.going far open).1 in
+                  let at = test-at (tests_made n t i) l far (paced.going far unfinished).1 in
                   (omega (arith, m, l), rw m (x ∙ (rw at (pace_suc (tests_made n t i)))));
               ended = λ far g. absurd (omega (arith, f));
               first = λ _ z. absurd (omega (arith, m));
