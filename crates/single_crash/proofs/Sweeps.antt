@@ -150,14 +150,14 @@ module _ (n begins : ℕ) (wait : ℕ → Bool) (made : ℕ → ℕ) (last g : �
   }
 
 -- and so does whatever makes fewer wait
-pub sweep-fewer : (n begins : ℕ) (wait wait' : ℕ → Bool) (made : ℕ → ℕ) (last : ℕ) → ((i : ℕ) → i < n → wait' i ≡ true → wait i ≡ true)
-    → InSweep n begins wait made last → InSweep n begins wait' made last
-sweep-fewer n begins wait wait' made last waited s = record {
+pub sweep-fewer : (n begins : ℕ) (wait wait' : ℕ → Bool) (made made' : ℕ → ℕ) (last : ℕ) → ((i : ℕ) → i < n → wait' i ≡ true → wait i ≡ true)
+    → ((i : ℕ) → i < n → made' i ≡ made i) → InSweep n begins wait made last → InSweep n begins wait' made' last
+sweep-fewer n begins wait wait' made made' last waited same s = record {
   sweep = s.sweep;
   passed = s.passed;
   near = s.near;
   far = s.far;
-  to_come = λ i h w l. s.to_come i h (waited i h w) l;
-  done = λ i h w l. s.done i h (waited i h w) l;
-  most = s.most;
+  to_come = λ i h w l. omega (arith, same i h, s.to_come i h (waited i h w) l);
+  done = λ i h w l. omega (arith, same i h, s.done i h (waited i h w) l);
+  most = λ i h. omega (arith, same i h, s.most i h);
 }

@@ -1,0 +1,140 @@
+-- One board crashes in a plant whose boards are all live: where the drive stands then, and when the board is known.
+-- Assumes nothing.
+use mathlib.Core.Path.{◌≡◌, refl, sym, ap, ◌∙◌}
+use mathlib.Core.Logic.{◌≢◌, by_cases}
+use mathlib.Core.Bool.{Bool, true, false, not, true≢false}
+use mathlib.Core.List.{List}
+use Prim.Native.Nat.{ℕ, suc, ◌+◌, ◌≤◌, ◌<◌}
+use native.Mathlib.Decide.{ℕ_discrete}
+use native.Mathlib.Numerals.{add-one}
+use native.Mathlib.Omega.{arith}
+use borrow.Author.Tests.{eqb-true, eqb-false, eq-eqb, ne_eqb}
+use lib.Dec.{eqb}
+use lib.Seq.{ext_get_or}
+use Rattle.std.specs.Prelude.{Ok}
+use Rattle.lists.specs.Sums.{bit}
+use Rattle.lists.proofs.BoolLaws.{by_bool}
+use Rattle.lists.proofs.SearchLaws.{both, every-all, every-not, list_of-length, list_of-at}
+use Rattle.table.specs.Sizes.{is_size}
+use Rattle.table.specs.Wiring.{wiring_check}
+use Rattle.table.specs.Table.{head, stride, cell, status_column, next_column, finished_column, tests_column, finished, tests_made, suspects, live, row}
+use Rattle.table.specs.Table.{status_crashed}
+use Rattle.table.specs.Rules.{wired_line_rules, not_live, some_live, round_over}
+use Rattle.table.specs.Properties.{exact_row}
+use Rattle.table.proofs.SizeLaws.{size-bounds}
+use Rattle.table.proofs.Accepting.{Accepted}
+use Rattle.table.proofs.CellLaws.{cell_same, cell_other, row-length, row_at, line-holds}
+use Rattle.plant.specs.Turn.{kind_turn, kind_crash, next_test, makes_test, outcome_at, turn, crash}
+use Rattle.plant.specs.Round.{reset_lines, after_round}
+use Rattle.plant.specs.Entry.{state_of, acted, after}
+use Rattle.plant.proofs.RunLaws.{accepted-number}
+use Rattle.plant.proofs.RulesKept.{unfinished-open}
+use Rattle.plant.proofs.RoundLaws.{Reset, reset-cells}
+use Rattle.plant.proofs.StepLines.{leave-lines}
+use Rattle.plant.proofs.TurnHeads.{Heads, turn-heads}
+use Rattle.granter.specs.Grant.{no_grant, waits, following, last_refusal, grant_refusal}
+use Rattle.granter.specs.Drive.{Stand, stand_at, granted_at, grant_turn}
+use Rattle.granter.proofs.GrantLaws.{granted-waits, waits-parts, grant-zero, station-fits, last-below}
+use Rattle.granter.proofs.Fair.{next-going-round}
+use Rattle.detection.proofs.TurnEffect.{Plain, Company, Grown, Exact, TurnKept, turn-effect}
+use Rattle.detection.proofs.RoundKnowledge.{reset-rows}
+use Rattle.single_crash.specs.Sweeps.{turns_made}
+use Rattle.single_crash.specs.Setting.{crash_at, KnownDead}
+use Rattle.single_crash.proofs.Sweeps.{InSweep, sweep-start, Next, Moved, sweep-next, sweep-fewer}
+use Rattle.single_crash.proofs.Running.{Crew, Running, Closed, WentOn, begin}
+
+-- every board, and every board but b
+abbrev pub everyone : ℕ → Bool
+everyone i = true
+
+abbrev pub all_but : ℕ → ℕ → Bool
+all_but b i = not (eqb i b)
+
+-- b crashes in a plant whose boards are all live, and in which nobody suspects anybody
+module _ (w n b begins : ℕ) (q : Stand) (crew : Crew w n (all_but b)) (hb : b < n) (r : Running w n everyone begins q) where
+  abbrev t : List ℕ
+  t = q.state.table
+
+  abbrev t' : List ℕ
+  t' = crash n t b
+
+  same : (k c : ℕ) → c < stride n → (b ≡ k → c ≢ status_column) → cell n t' k c ≡ cell n t k c
+  unfolding crash
+  same k c h out = cell_other n t b status_column status_crashed k c (omega arith) h (λ e f. out e (sym f))
+
+  gone : live n t' b ≡ false
+  unfolding crash
+  gone = rw (cell_same n t b status_column status_crashed r.plain.lines.0 hb (omega arith)) refl
+
+  crashed-lives : (i : ℕ) → i < n → live n t' i ≡ all_but b i
+  crashed-lives i h =
+      by_cases (ℕ_discrete i b) (λ e. rw (e, eq-eqb b b refl) gone)
+      (λ d. rw (ne_eqb i b d, same i status_column (omega arith) (λ e. absurd (d (sym e)))) (r.plain.lives i h))
+
+  pub crash-plain : Plain w n (all_but b) t'
+  unfolding crash
+  crash-plain = record {
+    lines = leave-lines w n t b r.plain.lines hb (r.plain.lives b hb) status_crashed (omega arith) (omega arith) (omega arith);
+    lives = crashed-lives;
+    accurate = λ i j h g x y. same i (head + j) (omega arith) (λ e. omega arith) ∙ r.plain.accurate i j h g refl refl;
+  }
+
+  -- columns of the pass stay
+  pub crash-same : (k c : ℕ) → 1 ≤ c → c < stride n → cell n t' k c ≡ cell n t k c
+  crash-same k c lo h = same k c h (λ e. omega arith)
+
+  -- who waits then waited before
+  crash-waited : (i : ℕ) → i < n → waits n t' i ≡ true → waits n t i ≡ true
+  unfolding waits
+  crash-waited i h e =
+      let done = (both (live n t' i) (not (eqb (finished n t' i) 1)) e).1 in
+      rw (r.plain.lives i h, ← (crash-same i finished_column (omega arith) (omega arith))) done
+
+  abbrev q' : Stand
+  q' = crash_at w n q b
+
+  pub crash-closes : round_over n t' ≡ true → Closed w n (all_but b) t' q.last q q'
+  unfolding crash_at after acted after_round
+  crash-closes over =
+      let fresh = reset-cells n t' crash-plain.lines.0 in
+      let rows = reset-rows w n (all_but b) t' crash-plain in
+      rw over (record {
+        table = refl;
+        rounds = add-one q.state.rounds;
+        fresh = fresh;
+        grown = rows.1;
+        running = begin w n (all_but b) crew (stand_at (state_of (reset_lines n t') _ _) q.last) rows.0 fresh r.last_fits;
+      })
+
+  pub crash-goes_on : round_over n t' ≡ false → WentOn w n (all_but b) t' begins q q'
+  unfolding crash_at after acted after_round
+  crash-goes_on unclosed =
+      rw unclosed (record {
+        table = refl;
+        rounds = refl;
+        running = record {
+          plain = crash-plain;
+          unclosed = unclosed;
+          last_fits = r.last_fits;
+          fits = r.fits;
+          sweep =
+              sweep-fewer n begins (waits n t) (waits n t') (turns_made n t) (turns_made n t') q.last crash-waited
+              (λ i h. omega (arith, crash-same i finished_column (omega arith) (omega arith), crash-same i tests_column (omega arith) (omega arith)))
+              r.sweep;
+        };
+      })
+
+-- where every live board suspects every dead one, b is known
+pub known-dead : (w n b : ℕ) (t : List ℕ) → Plain w n (all_but b) t → Exact n (all_but b) t → KnownDead n t b
+unfolding exact_row
+known-dead w n b t p exact = record {
+  others_live = p.lives;
+  exact = λ i h l.
+      let others : ℕ → ℕ = λ j. bit (not_live n t j) in
+      let mine : all_but b i ≡ true = sym (p.lives i h) ∙ l in
+      let byte : (k : ℕ) → k < n → suspects n t i k ≡ others k =
+      λ k g. by_bool (all_but b k) (λ e. rw (p.lives k g, e) (p.accurate i k h g mine e)) (λ e. rw (p.lives k g, e) (exact i k h g mine e)) in
+      let long = row-length n t i p.lines.0 h in
+      ext_get_or 0 (row n t i) _ (long ∙ sym (list_of-length others n))
+      (λ k l. let g : k < n = omega arith in row_at n t i k g ∙ (byte k g ∙ sym (list_of-at others n k g)));
+}
