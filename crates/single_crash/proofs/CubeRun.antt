@@ -22,8 +22,8 @@ use Rattle.detection.proofs.RoundKnowledge.{all-finished}
 use Rattle.single_crash.specs.Sweeps.{turns_made}
 use Rattle.single_crash.specs.Setting.{crash_at}
 use Rattle.single_crash.proofs.Sweeps.{sweep-fewest}
-use Rattle.single_crash.proofs.Running.{Crew, Running, chosen, is_live, going, kept, heads, next, closes, goes_on, stays_known, everyone, all_but}
-use Rattle.single_crash.proofs.Running.{crash-closes, crash-goes_on, crash-same}
+use Rattle.single_crash.proofs.Running.{Crew, Running, chosen, is_live, going, kept, heads, next, closes, goes_on, stays_known}
+use Rattle.single_crash.proofs.Crashing.{everyone, all_but, crash-closes, crash-goes_on, crash-same}
 use Rattle.single_crash.proofs.CubePace.{AllBut, Paced, paced-start, paced-same, paced-own}
 use Rattle.single_crash.proofs.CubeLearn.{Learned, learned-start, learned-next, learned-ended}
 
@@ -91,8 +91,8 @@ module _ (n d b : ℕ) (L : ℕ → Bool) (a : AllBut n d b L) (p : Stand) (r : 
       record { begins = _; running = c.running; paced = λ i h q. paced-start n d b _ i (c.fresh i h) }
 
   on-running : round_over n t' ≡ false → CubeRunning n d b L p'
-  on-running open =
-      let w = goes_on wiring_cube n L crew r.begins p r.running open in
+  on-running on =
+      let w = goes_on wiring_cube n L crew r.begins p r.running on in
       record { begins = _; running = w.running; paced = rw w.table paced-turn }
 
   pub cube-runs : CubeRunning n d b L p'
@@ -146,15 +146,15 @@ module _ (n d b : ℕ) (a : AllBut n d b (all_but b)) (hb : b < n) (round : ℕ)
       by_bool (round_over n (t' n d b (all_but b) a p r))
       (λ over. let c = closes wiring_cube n (all_but b) (crew n d b (all_but b) a p r) r.begins p r.running over in
       next_round (c.rounds ∙ ap suc e) (learned-start n b _ c.fresh))
-      (λ open. let w = goes_on wiring_cube n (all_but b) (crew n d b (all_but b) a p r) r.begins p r.running open in same_round (w.rounds ∙ e))
+      (λ on. let w = goes_on wiring_cube n (all_but b) (crew n d b (all_but b) a p r) r.begins p r.running on in same_round (w.rounds ∙ e))
   phase-next p r (next_round e known) =
       by_bool (round_over n (t' n d b (all_but b) a p r))
       (λ over.
       let c = closes wiring_cube n (all_but b) (crew n d b (all_but b) a p r) r.begins p r.running over in
       all_know (λ i j h g l f.
       rw (dead-is j f) (c.grown i b h hb (learned-over n d b (all_but b) a p r hb dead known over i h (live-other i l)))))
-      (λ open.
-      let w = goes_on wiring_cube n (all_but b) (crew n d b (all_but b) a p r) r.begins p r.running open in
+      (λ on.
+      let w = goes_on wiring_cube n (all_but b) (crew n d b (all_but b) a p r) r.begins p r.running on in
       next_round (w.rounds ∙ e) (rw w.table (learned-turn n d b (all_but b) a p r hb dead known)))
   phase-next p r (all_know x) = all_know (stays_known wiring_cube n (all_but b) (crew n d b (all_but b) a p r) r.begins p r.running x)
 
@@ -185,8 +185,8 @@ module _ (n d b : ℕ) (a : AllBut n d b (all_but b)) (hb : b < n) (q : Stand) (
         record { begins = _; running = c.running; paced = λ i h e. paced-start n d b _ i (c.fresh i h) },
         next_round c.rounds (learned-start n b _ c.fresh),
       ))
-      (λ open.
-      let w = crash-goes_on wiring_cube n b r.begins q crew_left hb r.running open in
+      (λ on.
+      let w = crash-goes_on wiring_cube n b r.begins q crew_left hb r.running on in
       let same = crash-same wiring_cube n b r.begins q crew_left hb r.running in (
         record {
           begins = _;
