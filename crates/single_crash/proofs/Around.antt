@@ -156,3 +156,14 @@ module _ (n b : ℕ) (hb : b < n) (two : 2 ≤ n) where
       pick : ((b ≡ 0) × (before n b ≡ n - 1)) ⊎ ((1 ≤ b) × (before n b ≡ b - 1)) → BeginsAt n b (before n b + 1)
       pick (inl e) = inr (omega (arith, e.1), e.0)
       pick (inr e) = inl (omega (arith, e))
+
+-- of three boards or more those before and behind b are two
+pub both-apart : (n b : ℕ) → b < n → 3 ≤ n → before n b ≢ behind n b
+both-apart n b hb three e = pick (wrap n b 1 hb (omega arith)) (before-is n b hb (omega arith))
+  where
+    pick : ((b + 1) % n ≡ b + 1) × (b + 1 < n) ⊎ ((b + 1) % n ≡ b + 1 - n) × (n ≤ b + 1)
+        → ((b ≡ 0) × (before n b ≡ n - 1)) ⊎ ((1 ≤ b) × (before n b ≡ b - 1)) → ⊥
+    pick (inl w) (inl f) = omega (arith, w.0, f.1)
+    pick (inl w) (inr f) = omega (arith, w.0, f.1)
+    pick (inr w) (inl f) = omega (arith, w.0, f.1)
+    pick (inr w) (inr f) = omega (arith, w.0, f.1)

@@ -1,10 +1,13 @@
 -- The laws that the proofs of `single_crash` share.
+pub mod CubeDue
+pub mod CubePace
+pub mod CubeLearn
+pub mod CubeRun
+pub mod CubeKnown
 pub mod Sweeps
 pub mod Running
 pub mod Crashing
 pub mod Passes
 pub mod Around
-pub mod CubeDue
-pub mod CubePace
-pub mod CubeLearn
-pub mod CubeRun
+pub mod OnRing
+pub mod RingStages
