@@ -4,6 +4,7 @@ pub mod CubePace
 pub mod CubeLearn
 pub mod CubeRun
 pub mod CubeKnown
+pub mod CubeFits
 pub mod Sweeps
 pub mod Running
 pub mod Crashing
