@@ -5,6 +5,7 @@ pub mod CubeLearn
 pub mod CubeRun
 pub mod CubeKnown
 pub mod CubeFits
+pub mod CubeCount
 pub mod Sweeps
 pub mod Running
 pub mod Crashing
