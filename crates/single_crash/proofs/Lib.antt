@@ -7,9 +7,11 @@ pub mod CubeKnown
 pub mod CubeFits
 pub mod CubeCount
 pub mod Sweeps
+pub mod SweepLaw
 pub mod Running
 pub mod Crashing
 pub mod Passes
 pub mod Around
 pub mod OnRing
 pub mod RingStages
+pub mod RingKnown

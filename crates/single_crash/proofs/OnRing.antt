@@ -11,7 +11,7 @@ use Rattle.lists.specs.Sums.{sum_below, bit}
 use Rattle.lists.proofs.BoolLaws.{by_bool}
 use Rattle.table.specs.Sizes.{is_size}
 use Rattle.table.specs.Wiring.{wiring_ring}
-use Rattle.table.specs.Table.{finished_column, tests_column, next_distance, finished, tests_made}
+use Rattle.table.specs.Table.{finished_column, next_distance, finished, tests_made, suspects}
 use Rattle.table.specs.Rules.{round_over}
 use Rattle.table.proofs.SizeLaws.{size-bounds}
 use Rattle.plant.specs.Turn.{kind_turn, next_test, makes_test, outcome_at, turn}
@@ -60,6 +60,21 @@ module _ (n : ℕ) (L : ℕ → Bool) (crew : Crew w n L) (begins : ℕ) (p : St
 
   pub ring-turn : RingTurn n L (Row n t) (Row n t') (next_distance n t) (next_distance n t') (tests_made n t) (tests_made n t') g
   ring-turn = ring-turns w n L t t' g outcome refl (kept w n L crew begins p r) (heads w n L crew begins p r)
+
+  -- what it does to the granted board i, where its next distance is m
+  module _ (i m : ℕ) (e : i ≡ g) (q : next_distance n t i ≡ m) (low : m < n) where
+    turn-at : RingTurn n L (Row n t) (Row n t') (next_distance n t) (next_distance n t') (tests_made n t) (tests_made n t') i
+    turn-at = rw e ring-turn
+
+    pub counts-at : tests_made n t' i ≡ suc (tests_made n t i)
+    counts-at = turn-at.tests (omega arith)
+
+    pub finds-at : L ((i + m) % n) ≡ false → suspects n t' i ((i + m) % n) ≡ 1
+    finds-at d = ((rw q at turn-at.finds) low d).1
+
+    pub meets-at : L ((i + m) % n) ≡ true → (j : ℕ) → j < n
+        → (Row n t i j → Row n t' ((i + m) % n) j) × (Row n t ((i + m) % n) j → Row n t' i j)
+    meets-at l j h = ((rw q at turn-at.exchanges) low l).1 j h
 
   pub pass-turn : PassTurn n L (Row n t) (Row n t') (next_distance n t) (next_distance n t') (tests_made n t) (tests_made n t') (finished n t)
       (finished n t') g

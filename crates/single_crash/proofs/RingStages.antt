@@ -19,23 +19,24 @@ use Rattle.table.specs.Wiring.{wiring_ring}
 use Rattle.table.specs.Table.{next_column, finished_column, tests_column, next_distance, finished, tests_made, suspects}
 use Rattle.table.specs.Rules.{round_over}
 use Rattle.table.proofs.SizeLaws.{size-bounds}
-use Rattle.plant.specs.Turn.{kind_turn, turn}
+use Rattle.plant.specs.Turn.{kind_turn, turn, crash}
 use Rattle.plant.proofs.RoundLaws.{Reset}
-use Rattle.granter.specs.Grant.{waits}
+use Rattle.granter.specs.Grant.{waits, following}
 use Rattle.granter.specs.Fairness.{stations_before}
 use Rattle.granter.specs.Drive.{Stand, granted_at, grant_turn}
 use Rattle.detection.proofs.TurnEffect.{Exact}
 use Rattle.detection.proofs.RoundKnowledge.{all-finished}
 use Rattle.single_crash.specs.Sweeps.{turns_made}
+use Rattle.single_crash.specs.Setting.{crash_at}
 use Rattle.single_crash.proofs.Sweeps.{place-one, place-below, sweep-fewest, sweep-first, sweep-most}
 use Rattle.single_crash.proofs.Running.{Crew, Running, Closed, WentOn, chosen, is_live, going, kept, heads, next, moved, closes, goes_on}
-use Rattle.single_crash.proofs.Crashing.{all_but}
+use Rattle.single_crash.proofs.Crashing.{everyone, all_but, crash-same, crash-closes, crash-goes_on}
 use Rattle.single_crash.proofs.Passes.{Reaches, Passing, turns_left}
 use Rattle.single_crash.proofs.Around.{board_at, BeginsAt, board-below, begins-fits, place-of, place-zero, place-other, place-next}
 use Rattle.single_crash.proofs.Around.{before-below, before-next, other-next, before-second, before-apart, behind-below, behind-apart, begins-at}
 use Rattle.single_crash.proofs.Around.{both-apart}
 use Rattle.single_crash.proofs.Around as around
-use Rattle.single_crash.proofs.OnRing.{PassesOf, left_of, passes-fresh, ring-turn, pass-turn, passes-on, had-left, one-less, one, reach-one}
+use Rattle.single_crash.proofs.OnRing.{PassesOf, left_of, passes-fresh, counts-at, finds-at, meets-at, passes-on, had-left, one-less, one, reach-one, Before}
 
 abbrev w : ℕ
 w = wiring_ring
@@ -58,7 +59,7 @@ module _ (n b : ℕ) (size : is_size n ≡ true) (four : 4 ≤ n) (hb : b < n) w
   abbrev c : ℕ
   c = around.behind n b
 
-  a-below : a < n
+  pub a-below : a < n
   a-below = before-below n b hb (omega arith)
 
   c-below : c < n
@@ -112,7 +113,7 @@ module _ (n b : ℕ) (size : is_size n ≡ true) (four : 4 ≤ n) (hb : b < n) w
   reach-before i h = by_cases (ℕ_discrete i a) (λ e. rw (e, two-at) (omega arith, reach-two)) (λ d. rw (one-at i d) (omega arith, reach-other i h d))
 
   -- so many turns are left at the most: two of each live board, and one more of a
-  left-most : (t : List ℕ) → left_of n L two_before t + 1 ≤ n + n
+  pub left-most : (t : List ℕ) → left_of n L two_before t + 1 ≤ n + n
   unfolding turns_left
   left-most t =
       let f : ℕ → ℕ = turns_left L two_before (turns_made n t) in
@@ -131,7 +132,7 @@ module _ (n b : ℕ) (size : is_size n ≡ true) (four : 4 ≤ n) (hb : b < n) w
       )
 
   -- and fewer where a has made its test
-  left-tested : (t : List ℕ) → 1 ≤ tests_made n t a → left_of n L one t + 3 ≤ n + n
+  pub left-tested : (t : List ℕ) → 1 ≤ tests_made n t a → left_of n L one t + 3 ≤ n + n
   unfolding turns_left
   left-tested t tested =
       let f : ℕ → ℕ = turns_left L one (turns_made n t) in
@@ -194,3 +195,309 @@ module _ (n b : ℕ) (size : is_size n ≡ true) (four : 4 ≤ n) (hb : b < n) w
     waiting-on unclosed =
         let o = goes_on w n L crew begins p s.run unclosed in
         record { run = o.running; passes = rw o.table (passes-on n L crew begins p s.run one s.passes); tested = rw o.table waiting-tested }
+
+  -- a grant in the round in which a tests b
+  module _ (begins : ℕ) (p : Stand) (s : Finding begins p) where
+    abbrev t : List ℕ
+    t = p.state.table
+
+    abbrev g : ℕ
+    g = granted_at n p
+
+    abbrev t' : List ℕ
+    t' = turn w n t kind_turn g
+
+    grows : (i : ℕ) → i < n → suspects n t i b ≡ 1 → suspects n t' i b ≡ 1
+    grows i h e = (kept w n L crew begins p s.run).grows i b h hb e
+
+    others : a ≢ g → tests_made n t' a ≡ tests_made n t a
+    others d = (heads w n L crew begins p s.run).others a tests_column d (omega arith)
+
+    -- a finds b, and then tells the one behind it
+    turn-finds : a ≡ g → tests_made n t a ≡ 0 → suspects n t' a b ≡ 1
+    turn-finds e none =
+        let at = (s.passes.testing a a-below a-lives (omega (arith, two-at))).0 in
+        rw (before-next n b hb (omega arith)) at
+        (finds-at n L crew begins p s.run a 1 e (omega arith) (omega arith) (rw (before-next n b hb (omega arith)) b-dead))
+
+    turn-tells : a ≡ g → tests_made n t a ≡ 1 → suspects n t' c b ≡ 1
+    turn-tells e once =
+        let at = (s.passes.testing a a-below a-lives (omega (arith, two-at))).0 in
+        let meets = meets-at n L crew begins p s.run a 2 e (omega arith) (omega arith) (rw (before-second n b hb (omega arith)) c-lives) b hb in
+        rw (before-second n b hb (omega arith)) at (meets.0 (s.found (omega arith)))
+
+    finding-found : 1 ≤ tests_made n t' a → suspects n t' a b ≡ 1
+    finding-found l =
+        by_cases (dec_lt 0 (tests_made n t a)) (λ m. grows a a-below (s.found m))
+        (λ m. by_cases (ℕ_discrete a g) (λ e. turn-finds e (omega arith)) (λ d. absurd (omega (arith, others d))))
+
+    finding-told : 2 ≤ tests_made n t' a → suspects n t' c b ≡ 1
+    finding-told l =
+        by_cases (dec_lt 1 (tests_made n t a)) (λ m. grows c c-below (s.told m))
+        (λ m. by_cases (ℕ_discrete a g)
+        (λ e. by_cases (ℕ_discrete (tests_made n t a) 1) (turn-tells e)
+        (λ none.
+        let at = (s.passes.testing a a-below a-lives (omega (arith, two-at))).0 in
+        absurd (omega (arith, counts-at n L crew begins p s.run a 1 e (omega arith) (omega arith)))))
+        (λ d. absurd (omega (arith, others d))))
+
+    pub finding-on : round_over n t' ≡ false → Finding begins (grant_turn w n p)
+    finding-on unclosed =
+        let o = goes_on w n L crew begins p s.run unclosed in
+        record {
+          run = o.running;
+          passes = rw o.table (passes-on n L crew begins p s.run two_before s.passes);
+          found = rw o.table finding-found;
+          told = rw o.table finding-told;
+        }
+
+    -- where the round closes, a has finished last
+    finds-last : round_over n t' ≡ true → g ≡ a
+    finds-last over =
+        by_cases (ℕ_discrete g a) (λ e. e)
+        (λ d.
+        let r = s.run in
+        let h = heads w n L crew begins p r in
+        let ended : finished n t' a ≡ 1 = all-finished w n L t' (kept w n L crew begins p r).plain over a a-below a-lives in
+        let same = h.others a finished_column (λ e. d (sym e)) (omega arith) in
+        let after = by_cases (dec_lt (tests_made n t a) 2) (λ l. absurd (omega (arith, s.passes.testing a a-below a-lives (omega (arith, two-at)))))
+            (λ l. s.passes.tested a a-below a-lives (omega (arith, two-at))) in
+        let most = sweep-most n begins (waits n t) (turns_made n t) p.last g r.fits r.sweep (next w n L crew begins p r) a a-below in
+        absurd (omega (arith, most, after, two-at, one-at g d, had-left n L crew begins p r two_before s.passes, going w n L crew begins p r)))
+
+    -- it and the one behind b know b then, and the next round begins at b
+    pub finding-closes : round_over n t' ≡ true → (begins' : ℕ) × Spread begins' 0 (grant_turn w n p)
+    finding-closes over = (following g, record {
+      run = z.running;
+      from = rw (finds-last over) (begins-at n b hb (omega arith) top);
+      fresh = λ i h l m. let f = z.fresh i h in (f.next, f.untested, f.unfinished);
+      tested = λ i h l m. absurd (omega (arith, place-other n b (following g) hb from i h (apart i l)));
+      knows = λ i h l m.
+          let same : i ≡ c =
+          place-one n (following g) i c (begins-fits n b (following g) hb from) h c-below
+          (omega (arith, place-other n b (following g) hb from i h (apart i l), place-of n b (following g) hb from 1 (omega arith))) in
+          rw same (z.grown c b c-below hb (finding-told ended));
+      before_knows = z.grown a b a-below hb (finding-found (omega (arith, ended)));
+    })
+      where
+        z : Closed w n L t' g p (grant_turn w n p)
+        z = closes w n L crew begins p s.run over
+
+        top : n ≤ 64
+        top = (size-bounds n size).1
+
+        from : BeginsAt n b (following g)
+        from = rw (finds-last over) (begins-at n b hb (omega arith) top)
+
+        ended : 2 ≤ tests_made n t' a
+        ended =
+            let done = all-finished w n L t' (kept w n L crew begins p s.run).plain over a a-below a-lives in
+            by_cases (dec_lt 1 (tests_made n t' a)) (λ m. m)
+            (λ m. absurd (omega (arith, done, (passes-on n L crew begins p s.run two_before s.passes).testing a a-below a-lives
+            (omega (arith, two-at)))))
+
+  -- a grant in the round behind that
+  module _ (begins j : ℕ) (p : Stand) (s : Spread begins j p) (more : j + 3 < n) where
+    abbrev u : List ℕ
+    u = p.state.table
+
+    abbrev e : ℕ
+    e = granted_at n p
+
+    abbrev u' : List ℕ
+    u' = turn w n u kind_turn e
+
+    abbrev place : ℕ → ℕ
+    place i = stations_before n begins i
+
+    fits : begins ≤ n
+    fits = begins-fits n b begins hb s.from
+
+    below : e < n
+    below = (chosen w n L crew begins p s.run).0
+
+    -- the next board in the circle waits, and has made no turn
+    abbrev x : ℕ
+    x = board_at n b (suc j)
+
+    x-below : x < n
+    x-below = board-below n b (suc j) hb (omega arith)
+
+    x-place : place x ≡ suc j
+    x-place = place-of n b begins hb s.from (suc j) (omega arith)
+
+    x-lives : L x ≡ true
+    x-lives = lives x (λ q. omega (arith, x-place, rw (← q) at (place-zero n b begins hb s.from)))
+
+    x-waits : waits n u x ≡ true
+    unfolding waits
+    x-waits =
+        let f = s.fresh x x-below x-lives (omega (arith, x-place)) in
+        rw (s.run.plain.lives x x-below, x-lives, f.2) refl
+
+    -- so it is granted
+    at-next : e ≡ x
+    at-next =
+        let r = s.run in
+        let f = s.fresh x x-below x-lives (omega (arith, x-place)) in
+        let chain = next w n L crew begins p r in
+        let few = sweep-fewest n begins (waits n u) (turns_made n u) p.last e r.fits r.sweep chain x x-below x-waits in
+        let none : tests_made n u e ≡ 0 = omega arith in
+        let low : suc j ≤ place e =
+        by_cases (dec_lt j (place e)) (λ l. l)
+        (λ l. absurd (omega (arith, none, s.tested e below (is_live w n L crew begins p r) (omega arith)))) in
+        let high = sweep-first n begins (waits n u) (turns_made n u) p.last e r.fits r.sweep chain x x-below x-waits
+        (omega (arith, none, going w n L crew begins p r)) in
+        place-one n begins e x fits below x-below (omega (arith, x-place))
+
+    e-place : place e ≡ suc j
+    e-place = rw at-next x-place
+
+    e-lives : L e ≡ true
+    e-lives = is_live w n L crew begins p s.run
+
+    -- the one that it tests
+    abbrev y : ℕ
+    y = (e + 1) % n
+
+    y-place : place y ≡ suc (suc j)
+    y-place = omega (arith, place-next n b begins hb s.from e below (omega (arith, e-place)), e-place)
+
+    y-below : y < n
+    y-below = board-below n e 1 below (omega arith)
+
+    y-lives : L y ≡ true
+    y-lives = lives y (λ q. omega (arith, y-place, rw (← q) at (place-zero n b begins hb s.from)))
+
+    y-hears : suspects n u' y b ≡ 1
+    y-hears =
+        let f = s.fresh e below e-lives (omega (arith, e-place)) in
+        (meets-at n L crew begins p s.run e 1 refl f.0 (omega arith) y-lives b hb).0 (s.knows e below e-lives (omega (arith, e-place)))
+
+    counted : tests_made n u' e ≡ suc (tests_made n u e)
+    counted =
+        let f = s.fresh e below e-lives (omega (arith, e-place)) in
+        counts-at n L crew begins p s.run e 1 refl f.0 (omega arith)
+
+    -- a has made no turn, so that the round does not close
+    pub spread-open : round_over n u' ≡ false
+    spread-open =
+        by_bool (round_over n u')
+        (λ over.
+        let done = all-finished w n L u' (kept w n L crew begins p s.run).plain over a a-below a-lives in
+        let far = place-of n b begins hb s.from (n - 1) (omega arith) in
+        let other : a ≢ e = λ q. omega (arith, far, e-place, rw q at far) in
+        let same = (heads w n L crew begins p s.run).others a finished_column other (omega arith) in
+        absurd (omega (arith, done, same, s.fresh a a-below a-lives (omega (arith, far)))))
+        (λ o. o)
+
+    pub spread-on : Spread begins (suc j) (grant_turn w n p)
+    spread-on =
+        let o = goes_on w n L crew begins p s.run spread-open in
+        let h = heads w n L crew begins p s.run in
+        let grows : (i : ℕ) → i < n → suspects n u i b ≡ 1 → suspects n u' i b ≡ 1 =
+        λ i l q. (kept w n L crew begins p s.run).grows i b l hb q in
+        record {
+          run = o.running;
+          from = s.from;
+          fresh = λ i k l m.
+              let other : i ≢ e = λ q. omega (arith, e-place, rw q at m) in
+              let f = s.fresh i k l (omega arith) in
+              rw o.table (
+                h.others i next_column other (omega arith) ∙ f.0,
+                h.others i tests_column other (omega arith) ∙ f.1,
+                h.others i finished_column other (omega arith) ∙ f.2,
+              );
+          tested = λ i k l m.
+              rw o.table (by_cases (ℕ_discrete i e) (λ q. rw q (omega (arith, counted)))
+              (λ q.
+              let apart : place i ≢ place e = λ z. q (place-one n begins i e fits k below z) in
+              omega (arith, h.others i tests_column q (omega arith), s.tested i k l (omega (arith, apart, e-place)))));
+          knows = λ i k l m.
+              rw o.table (by_cases (dec_lt (place i) (suc (suc j))) (λ q. grows i k (s.knows i k l (omega arith)))
+              (λ q.
+              let same : i ≡ y = place-one n begins i y fits k y-below (omega (arith, y-place)) in
+              rw same y-hears));
+          before_knows = rw o.table (grows a a-below s.before_knows);
+        }
+
+  -- in the end all know b
+  pub spread-known : (begins j : ℕ) (p : Stand) → Spread begins j p → n ≤ j + 3 → Exact n L p.state.table
+  spread-known begins j p s far i k h hk l d =
+      let same : k ≡ b = by_cases (ℕ_discrete k b) (λ q. q) (λ q. absurd (true≢false (sym (lives k q) ∙ d))) in
+      let fits = begins-fits n b begins hb s.from in
+      let last = place-of n b begins hb s.from (n - 1) (omega arith) in
+      rw same (by_cases (dec_lt (stations_before n begins i) (n - 1)) (λ m. s.knows i h l (omega arith))
+      (λ m.
+      let q : i ≡ a = place-one n begins i a fits h a-below (omega (arith, last, place-below n begins i fits h)) in
+      rw q s.before_knows))
+
+  -- b crashes, and the round does not close with it
+  module _ (begins : ℕ) (q : Stand) (s : Before n begins q) (unclosed : round_over n (crash n q.state.table b) ≡ false) where
+    abbrev v : List ℕ
+    v = q.state.table
+
+    abbrev v' : List ℕ
+    v' = crash n v b
+
+    record Same (i : ℕ) : Type 0 where
+      pub next : next_distance n v' i ≡ next_distance n v i
+      pub made : tests_made n v' i ≡ tests_made n v i
+      pub done : finished n v' i ≡ finished n v i
+
+    same : (i : ℕ) → Same i
+    same i =
+        let at = crash-same w n b begins q crew hb s.run i in
+        record {
+          next = at next_column (omega arith) (omega arith);
+          made = at tests_column (omega arith) (omega arith);
+          done = at finished_column (omega arith) (omega arith);
+        }
+
+    on : WentOn w n L v' begins q (crash_at w n q b)
+    on = crash-goes_on w n b begins q crew hb s.run unclosed
+
+    -- where a has made no test, it tests b
+    pub crash-finding : tests_made n v a ≡ 0 → Finding begins (crash_at w n q b)
+    crash-finding none = record {
+      run = on.running;
+      passes = rw on.table (record {
+        testing = λ i h l m.
+            let z = same i in
+            by_cases (ℕ_discrete i a)
+            (λ e.
+            let at = s.passes.testing i h refl (rw e (omega (arith, none))) in
+            (omega (arith, z.next, z.made, at.0), omega (arith, z.done, at.1), rw (e, two-at) reach-two))
+            (λ d.
+            let at = s.passes.testing i h refl (omega (arith, one-at i d, z.made)) in
+            (omega (arith, z.next, z.made, at.0), omega (arith, z.done, at.1), rw (one-at i d) (reach-other i h d)));
+        tested = λ i h l m.
+            let z = same i in
+            by_cases (ℕ_discrete i a) (λ e. absurd (omega (arith, none, two-at, z.made, rw e at m, (same a).made)))
+            (λ d.
+            let at = s.passes.tested i h refl (omega (arith, one-at i d, z.made)) in
+            (omega (arith, z.next, at.0), omega (arith, one-at i d, z.made, at.1)));
+        range = λ i h. omega (arith, (same i).done, s.passes.range i h);
+      });
+      found = λ l. absurd (omega (arith, none, (same a).made, rw on.table at l));
+      told = λ l. absurd (omega (arith, none, (same a).made, rw on.table at l));
+    }
+
+    -- where it has made its test, the rest of the round brings nothing
+    pub crash-waiting : 1 ≤ tests_made n v a → Waiting begins (crash_at w n q b)
+    crash-waiting had = record {
+      run = on.running;
+      passes = rw on.table (record {
+        testing = λ i h l m.
+            let z = same i in
+            let at = s.passes.testing i h refl (omega (arith, z.made)) in
+            let d : i ≢ a = λ e. omega (arith, z.made, rw (← e) at had) in
+            (omega (arith, z.next, z.made, at.0), omega (arith, z.done, at.1), reach-other i h d);
+        tested = λ i h l m.
+            let z = same i in
+            let at = s.passes.tested i h refl (omega (arith, z.made)) in
+            (omega (arith, z.next, at.0), omega (arith, z.made, at.1));
+        range = λ i h. omega (arith, (same i).done, s.passes.range i h);
+      });
+      tested = rw on.table (omega (arith, (same a).made));
+    }

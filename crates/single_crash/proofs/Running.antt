@@ -40,7 +40,9 @@ use Rattle.detection.proofs.TurnEffect.{Plain, Company, Grown, Exact, TurnKept, 
 use Rattle.detection.proofs.RoundKnowledge.{reset-rows}
 use Rattle.single_crash.specs.Sweeps.{turns_made}
 use Rattle.single_crash.specs.Setting.{crash_at, KnownDead}
-use Rattle.single_crash.proofs.Sweeps.{InSweep, sweep-start, Next, Moved, sweep-next, sweep-fewer}
+use Rattle.single_crash.proofs.Sweeps.{InSweep, sweep-start, Next, Moved, sweep-next}
+use Rattle.single_crash.proofs.SweepLaw.{begins-fits, Going}
+use Rattle.single_crash.proofs.SweepLaw as law
 
 -- wiring and size, and who is live: each live board has another one beside it
 pub record Crew (w n : ℕ) (L : ℕ → Bool) : Type 0 where
@@ -70,12 +72,6 @@ pub record WentOn (w n : ℕ) (L : ℕ → Bool) (t' : List ℕ) (begins : ℕ) 
   pub table : p'.state.table ≡ t'
   pub rounds : p'.state.rounds ≡ p.state.rounds
   pub running : Running w n L begins p'
-
--- where a round begins, the going round begins at n at the most
-begins-fits : (n last : ℕ) → last_refusal n last ≡ 0 → following last ≤ n
-unfolding following
-begins-fits n last fits =
-    by_bool (eqb last no_grant) (λ e. rw e (omega arith)) (λ e. rw e (omega (arith, last-below n last fits e)))
 
 module _ (w n : ℕ) (L : ℕ → Bool) (crew : Crew w n L) where
   some-live : (t : List ℕ) → Plain w n L t → some_live n t ≡ true
@@ -121,46 +117,34 @@ module _ (w n : ℕ) (L : ℕ → Bool) (crew : Crew w n L) where
     abbrev outcome : ℕ
     outcome = outcome_at w n t kind_turn g (next_test w n t g)
 
+    now : Going w n begins p
+    now = record {
+      ok = accepted t r.plain r.unclosed;
+      someone = some-live t r.plain;
+      last_fits = r.last_fits;
+      sweep = r.sweep;
+    }
+
     pub chosen : (g < n) × (waits n t g ≡ true)
-    chosen = granted-waits n t r.unclosed (some-live t r.plain) p.last
+    chosen = law.chosen w n begins p now
 
     pub is_live : L g ≡ true
     is_live = sym (r.plain.lives g chosen.0) ∙ (waits-parts n t g chosen.1).0
 
     pub going : finished n t g ≡ 0
-    going =
-        let open-pass = eqb-false (finished n t g) 1 (waits-parts n t g chosen.1).1 in
-        omega (arith, open-pass, (r.plain.lines.1 g chosen.0).pass.finished_range)
+    going = law.going w n begins p now
 
     pub kept : TurnKept w n L t t' g outcome
     kept = turn-effect w n L t kind_turn g r.plain crew.company chosen.0 is_live going (λ a b. refl)
 
     pub heads : Heads w n t t' g outcome (makes_test w n t g)
-    heads = turn-heads w n t kind_turn g r.plain.lines chosen.0
+    heads = law.heads w n begins p now
 
-    -- it is the next in its sweep
     pub next : Next n (waits n t) p.last g
-    next =
-        let zero = grant-zero w n t p.last (accepted-number w n t (accepted t r.plain r.unclosed)) r.last_fits (some-live t r.plain) in
-        record { below = chosen.0; waiting = chosen.1; nearest = (next-going-round w n t p.last zero).2 }
-
-    -- who waits after its turn waited before
-    waited : (i : ℕ) → i < n → waits n t' i ≡ true → waits n t i ≡ true
-    unfolding waits
-    waited i h e =
-        by_cases (ℕ_discrete i g) (λ q. rw q chosen.1)
-        (λ d.
-        let lives : live n t' i ≡ live n t i = kept.plain.lives i h ∙ sym (r.plain.lives i h) in
-        let finished : finished n t' i ≡ finished n t i = heads.others i finished_column d (omega arith) in
-        rw (lives, finished) at e)
+    next = law.next w n begins p now
 
     pub moved : Moved n (waits n t) (waits n t') (turns_made n t) (turns_made n t') g
-    moved = record {
-      waited = waited;
-      own = by_bool (makes_test w n t g) (λ e. omega (arith, going, rw e at heads.tests, rw e at heads.finish))
-          (λ e. omega (arith, going, rw e at heads.tests, rw e at heads.finish));
-      others = λ i h d. omega (arith, heads.others i finished_column d (omega arith), heads.others i tests_column d (omega arith));
-    }
+    moved = law.moved w n begins p now
 
     abbrev p' : Stand
     p' = grant_turn w n p

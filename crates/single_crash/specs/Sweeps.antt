@@ -22,5 +22,6 @@ pub record InTurn (n : ℕ) (t : List ℕ) (last begun : ℕ) : Type 0 where
 -- any station's second, and so on, each time in the same order
 abbrev pub GrantsGoInSweeps : Type 0
 GrantsGoInSweeps =
-    (w n : ℕ) (p : Stand) (k : ℕ) → grant_refusal w n p.state.table p.last ≡ 0 → at_start n p.state.table ≡ true → ended_after w n p k ≡ false
+    (w n : ℕ) (p : Stand) (k : ℕ) → grant_refusal w n p.state.table p.last ≡ 0 → at_start n p.state.table ≡ true
+    → ((j : ℕ) → j ≤ k → ended_after w n p j ≡ false)
     → InTurn n (after_grants w n p k).state.table (after_grants w n p k).last p.last
