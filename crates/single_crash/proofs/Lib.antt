@@ -2,10 +2,7 @@
 pub mod CubeDue
 pub mod CubePace
 pub mod CubeLearn
-pub mod CubeRun
-pub mod CubeKnown
-pub mod CubeFits
-pub mod CubeCount
+pub mod CubeWays
 pub mod Sweeps
 pub mod SweepLaw
 pub mod Running
