@@ -3,6 +3,7 @@ pub mod CubeDue
 pub mod CubePace
 pub mod CubeLearn
 pub mod CubeWays
+pub mod Heard
 pub mod Sweeps
 pub mod SweepLaw
 pub mod Running
