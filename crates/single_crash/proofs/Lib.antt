@@ -4,6 +4,7 @@ pub mod CubePace
 pub mod CubeLearn
 pub mod CubeWays
 pub mod Heard
+pub mod CubeRun
 pub mod Sweeps
 pub mod SweepLaw
 pub mod Running
