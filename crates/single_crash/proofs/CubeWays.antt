@@ -32,7 +32,7 @@ lower m h e = xor-of-near h m (2 ^ h) near
         unit m bounds.0 bounds.1 ∙ sym (unit (2 ^ h) (omega arith) (omega (arith, pow_pos h)))
 
 -- the distance from b of the board at distance m from x
-turned : (x m b : ℕ) → distance (station_at x m) b ≡ bit_xor (distance x b) m
+pub turned : (x m b : ℕ) → distance (station_at x m) b ≡ bit_xor (distance x b) m
 turned x m b = cc (xor_assoc x m b, xor_assoc x b m, xor_comm m b)
 
 -- the distance of another board is not 0
@@ -59,7 +59,7 @@ pub multiple-above : (s m : ℕ) → 1 ≤ m → m % 2 ^ s ≡ 0 → 2 ^ s ≤ m
 multiple-above s m pos e = by_cases (dec_lt m (2 ^ s)) (λ l. omega (arith, mod-eq_of_lt l)) (λ l. omega arith)
 
 -- a power of two from 2^s on is a multiple of 2^s
-power-multiple : (s h : ℕ) → s ≤ h → 2 ^ h % 2 ^ s ≡ 0
+pub power-multiple : (s h : ℕ) → s ≤ h → 2 ^ h % 2 ^ s ≡ 0
 power-multiple s h l =
     let u : ℕ = h - s in
     let e : u + s ≡ h = omega arith in

@@ -5,6 +5,7 @@ pub mod CubeLearn
 pub mod CubeWays
 pub mod Heard
 pub mod CubeRun
+pub mod CubeOdd
 pub mod Sweeps
 pub mod SweepLaw
 pub mod Running
