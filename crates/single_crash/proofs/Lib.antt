@@ -6,6 +6,7 @@ pub mod CubeWays
 pub mod Heard
 pub mod CubeRun
 pub mod CubeOdd
+pub mod CubeStages
 pub mod Sweeps
 pub mod SweepLaw
 pub mod Running
