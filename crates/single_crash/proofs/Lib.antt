@@ -7,6 +7,7 @@ pub mod Heard
 pub mod CubeRun
 pub mod CubeOdd
 pub mod CubeStages
+pub mod CubeCrash
 pub mod Sweeps
 pub mod SweepLaw
 pub mod Running
