@@ -27,6 +27,11 @@ behind n b = board_at n b 1
 abbrev pub BeginsAt : ℕ → ℕ → ℕ → Type 0
 BeginsAt n b begins = (begins ≡ b) ⊎ ((begins ≡ n) × (b ≡ 0))
 
+-- wherever it begins, it is at some board
+pub some-board : (n begins : ℕ) → 0 < n → begins ≤ n → (f : ℕ) × (f < n) × BeginsAt n f begins
+some-board n begins pos le =
+    by_cases (dec_lt begins n) (λ l. (begins, l, inl refl)) (λ l. (0, pos, inr (omega arith, refl)))
+
 -- i + m, going round
 pub wrap : (n i m : ℕ) → i < n → m ≤ n → ((i + m) % n ≡ i + m) × (i + m < n) ⊎ ((i + m) % n ≡ i + m - n) × (n ≤ i + m)
 wrap n i m h le = by_cases (dec_lt (i + m) n) (λ l. inl (place_before n (i + m) l, l))

@@ -124,6 +124,13 @@ module _ (w n b begins : ℕ) (q : Stand) (crew : Crew w n (all_but b)) (hb : b 
         };
       })
 
+  -- it makes no turn
+  pub crash-turns : round_over n t' ≡ false → (i : ℕ) → turns_made n q'.state.table i ≡ turns_made n t i
+  crash-turns unclosed i =
+      let at = crash-same i in
+      rw (crash-goes_on unclosed).table
+      (omega (arith, at finished_column (omega arith) (omega arith), at tests_column (omega arith) (omega arith)))
+
 -- where every live board suspects every dead one, b is known
 pub known-dead : (w n b : ℕ) (t : List ℕ) → Plain w n (all_but b) t → Exact n (all_but b) t → KnownDead n t b
 unfolding exact_row

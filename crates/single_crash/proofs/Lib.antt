@@ -16,4 +16,6 @@ pub mod Passes
 pub mod Around
 pub mod OnRing
 pub mod RingStages
+pub mod RingLast
+pub mod RingFirst
 pub mod RingKnown

@@ -35,6 +35,13 @@ passing-start n live reach next made done fresh far = record {
   range = λ i h. omega (arith, fresh i h);
 }
 
+-- how many tests a live board has made at the most, and where it has finished
+pub made-most : (n : ℕ) (live : ℕ → Bool) (reach next made done : ℕ → ℕ) → Passing n live reach next made done → (i : ℕ) → i < n → live i ≡ true
+    → (made i ≤ reach i) × (done i ≡ 1 → made i ≡ reach i)
+made-most n live reach next made done pass i h l =
+    by_cases (dec_lt (made i) (reach i)) (λ m. (omega arith, λ e. absurd (omega (arith, pass.testing i h l m))))
+    (λ m. let q = pass.tested i h l (omega arith) in (omega (arith, q), λ e. q.1))
+
 -- a turn of board g that has not finished, and what it does to the finished passes
 pub record PassTurn (n : ℕ) (live : ℕ → Bool) (row row' : ℕ → ℕ → Type 0) (next next' made made' done done' : ℕ → ℕ) (g : ℕ) : Type 0 where
   pub below : g < n

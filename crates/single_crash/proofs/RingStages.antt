@@ -62,22 +62,22 @@ module _ (n b : ℕ) (size : is_size n ≡ true) (four : 4 ≤ n) (hb : b < n) w
   pub a-below : a < n
   a-below = before-below n b hb (omega arith)
 
-  c-below : c < n
+  pub c-below : c < n
   c-below = behind-below n b hb (omega arith)
 
-  lives : (i : ℕ) → i ≢ b → L i ≡ true
+  pub lives : (i : ℕ) → i ≢ b → L i ≡ true
   lives i d = rw (ne_eqb i b d) refl
 
-  apart : (i : ℕ) → L i ≡ true → i ≢ b
+  pub apart : (i : ℕ) → L i ≡ true → i ≢ b
   apart i l e = true≢false (sym l ∙ rw (e, eq-eqb b b refl) refl)
 
-  a-lives : L a ≡ true
+  pub a-lives : L a ≡ true
   a-lives = lives a (before-apart n b hb (omega arith))
 
   c-lives : L c ≡ true
   c-lives = lives c (behind-apart n b hb (omega arith))
 
-  b-dead : L b ≡ false
+  pub b-dead : L b ≡ false
   b-dead = rw (eq-eqb b b refl) refl
 
   pub crew : Crew w n L
@@ -93,10 +93,10 @@ module _ (n b : ℕ) (size : is_size n ≡ true) (four : 4 ≤ n) (hb : b < n) w
   abbrev pub two_before : ℕ → ℕ
   two_before i = suc (bit (eqb i a))
 
-  two-at : two_before a ≡ 2
+  pub two-at : two_before a ≡ 2
   two-at = rw (eq-eqb a a refl) refl
 
-  one-at : (i : ℕ) → i ≢ a → two_before i ≡ 1
+  pub one-at : (i : ℕ) → i ≢ a → two_before i ≡ 1
   one-at i d = rw (ne_eqb i a d) refl
 
   reach-two : Reaches n L 2 a
@@ -131,23 +131,28 @@ module _ (n b : ℕ) (size : is_size n ≡ true) (four : 4 ≤ n) (hb : b < n) w
         sum-const 2 n,
       )
 
-  -- and fewer where a has made its test
-  pub left-tested : (t : List ℕ) → 1 ≤ tests_made n t a → left_of n L one t + 3 ≤ n + n
+  -- where none but a tests twice, and a live board x has made v turns
+  pub left-made : (t : List ℕ) (x v y z : ℕ) → x < n → y < n → x ≢ y → L x ≡ true → L y ≡ true → v ≤ turns_made n t x → z ≤ turns_made n t y
+      → v ≤ 2 → z ≤ 2 → left_of n L one t + (2 + v + z) ≤ n + n
   unfolding turns_left
-  left-tested t tested =
+  left-made t x v y z hx hy d lx ly made made' two two' =
       let f : ℕ → ℕ = turns_left L one (turns_made n t) in
-      let most : (i : ℕ) → i < n → (f i + at_place b 2 i) + at_place a 1 i ≤ 2 =
+      let most : (i : ℕ) → i < n → (f i + at_place b 2 i) + (at_place x v i + at_place y z i) ≤ 2 =
       λ i h. by_cases (ℕ_discrete i b)
-      (λ e. rw (e, eq-eqb b b refl, ne_eqb b a (λ f. before-apart n b hb (omega arith) (sym f))) (omega arith))
-      (λ d. rw (ne_eqb i b d) (by_cases (ℕ_discrete i a) (λ e. rw (e, eq-eqb a a refl) (omega (arith, tested)))
-      (λ d. rw (ne_eqb i a d) (omega arith)))) in
+      (λ e. rw (e, eq-eqb b b refl, ne_eqb b x (λ q. apart x lx (sym q)), ne_eqb b y (λ q. apart y ly (sym q))) (omega arith))
+      (λ k. rw (ne_eqb i b k) (by_cases (ℕ_discrete i x)
+      (λ e. rw (e, eq-eqb x x refl, ne_eqb x y d) (omega arith))
+      (λ m. rw (ne_eqb i x m) (by_cases (ℕ_discrete i y) (λ e. rw (e, eq-eqb y y refl) (omega arith))
+      (λ q. rw (ne_eqb i y q) (omega arith)))))) in
       omega (
         arith,
-        sum-le {f = λ i. (f i + at_place b 2 i) + at_place a 1 i} {g = λ i. 2} n most,
-        sum-add (λ i. f i + at_place b 2 i) (at_place a 1) n,
+        sum-le {f = λ i. (f i + at_place b 2 i) + (at_place x v i + at_place y z i)} {g = λ i. 2} n most,
+        sum-add (λ i. f i + at_place b 2 i) (λ i. at_place x v i + at_place y z i) n,
         sum-add f (at_place b 2) n,
+        sum-add (at_place x v) (at_place y z) n,
         sum-at n b 2 hb,
-        sum-at n a 1 a-below,
+        sum-at n x v hx,
+        sum-at n y z hy,
         sum-const 2 n,
       )
 
@@ -421,16 +426,22 @@ module _ (n b : ℕ) (size : is_size n ≡ true) (four : 4 ≤ n) (hb : b < n) w
           before_knows = rw o.table (grows a a-below s.before_knows);
         }
 
+  -- where a knows b, and all that stand before it in the circle
+  pub spread-exact : (begins : ℕ) (p : Stand) → BeginsAt n b begins
+      → ((i : ℕ) → i < n → L i ≡ true → stations_before n begins i < n - 1 → suspects n p.state.table i b ≡ 1)
+      → suspects n p.state.table a b ≡ 1 → Exact n L p.state.table
+  spread-exact begins p from knows last i k h hk l d =
+      let same : k ≡ b = by_cases (ℕ_discrete k b) (λ q. q) (λ q. absurd (true≢false (sym (lives k q) ∙ d))) in
+      let fits = begins-fits n b begins hb from in
+      let far = place-of n b begins hb from (n - 1) (omega arith) in
+      rw same (by_cases (dec_lt (stations_before n begins i) (n - 1)) (knows i h l)
+      (λ m.
+      let q : i ≡ a = place-one n begins i a fits h a-below (omega (arith, far, place-below n begins i fits h)) in
+      rw q last))
+
   -- in the end all know b
   pub spread-known : (begins j : ℕ) (p : Stand) → Spread begins j p → n ≤ j + 3 → Exact n L p.state.table
-  spread-known begins j p s far i k h hk l d =
-      let same : k ≡ b = by_cases (ℕ_discrete k b) (λ q. q) (λ q. absurd (true≢false (sym (lives k q) ∙ d))) in
-      let fits = begins-fits n b begins hb s.from in
-      let last = place-of n b begins hb s.from (n - 1) (omega arith) in
-      rw same (by_cases (dec_lt (stations_before n begins i) (n - 1)) (λ m. s.knows i h l (omega arith))
-      (λ m.
-      let q : i ≡ a = place-one n begins i a fits h a-below (omega (arith, last, place-below n begins i fits h)) in
-      rw q s.before_knows))
+  spread-known begins j p s far = spread-exact begins p s.from (λ i h l m. s.knows i h l (omega arith)) s.before_knows
 
   -- b crashes, and the round does not close with it
   module _ (begins : ℕ) (q : Stand) (s : Before n begins q) (unclosed : round_over n (crash n q.state.table b) ≡ false) where

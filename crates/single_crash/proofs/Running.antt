@@ -74,7 +74,7 @@ pub record WentOn (w n : ℕ) (L : ℕ → Bool) (t' : List ℕ) (begins : ℕ) 
   pub running : Running w n L begins p'
 
 module _ (w n : ℕ) (L : ℕ → Bool) (crew : Crew w n L) where
-  some-live : (t : List ℕ) → Plain w n L t → some_live n t ≡ true
+  pub some-live : (t : List ℕ) → Plain w n L t → some_live n t ≡ true
   unfolding some_live
   some-live t p =
       let z = crew.someone in

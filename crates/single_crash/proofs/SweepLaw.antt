@@ -2,7 +2,7 @@
 -- Assumes nothing.
 use mathlib.Core.Path.{◌≡◌, refl, sym, ◌∙◌}
 use mathlib.Core.Logic.{by_cases}
-use mathlib.Core.Bool.{true, false}
+use mathlib.Core.Bool.{true, false, ◌&&◌}
 use mathlib.Core.List.{List}
 use Prim.Native.Nat.{ℕ, zero, suc, ◌+◌, ◌≤◌, ◌<◌}
 use native.Mathlib.Decide.{ℕ_discrete}
@@ -11,7 +11,7 @@ use borrow.Author.Tests.{eqb-true, eqb-false}
 use lib.Dec.{eqb}
 use Rattle.lists.proofs.BoolLaws.{by_bool}
 use Rattle.lists.proofs.SearchLaws.{both, every-at}
-use Rattle.table.specs.Table.{status_column, finished_column, tests_column, finished, tests_made, live}
+use Rattle.table.specs.Table.{status_column, finished_column, tests_column, next_distance, finished, tests_made, live}
 use Rattle.table.specs.Rules.{some_live, round_over}
 use Rattle.table.specs.Properties.{line_at_start, at_start}
 use Rattle.table.proofs.SizeLaws.{size-bounds}
@@ -144,11 +144,11 @@ module _ (w n : ℕ) (p : Stand) (granted : grant_refusal w n p.state.table p.la
   none-made : (i : ℕ) → i < n → turns_made n p.state.table i ≡ 0
   unfolding at_start
   none-made i h =
-      let all = both _ _ (every-at (line_at_start n p.state.table) n i start h) in
-      let head = both _ _ all.0 in
-      let none : tests_made n p.state.table i ≡ 0 = eqb-true _ 0 all.1 in
-      let unfinished : finished n p.state.table i ≡ 0 = eqb-true _ 0 head.1 in
-      omega arith
+      let made : ℕ = tests_made n p.state.table i in
+      let done : ℕ = finished n p.state.table i in
+      let all = both (eqb (next_distance n p.state.table i) 1 && eqb done 0) (eqb made 0) (every-at (line_at_start n p.state.table) n i start h) in
+      let head = both (eqb (next_distance n p.state.table i) 1) (eqb done 0) all.0 in
+      omega (arith, eqb-true done 0 head.1, eqb-true made 0 all.1)
 
   going-after : (k : ℕ) → ((j : ℕ) → j ≤ k → ended_after w n p j ≡ false) → Going w n begins (after_grants w n p k)
   unfolding after_grants

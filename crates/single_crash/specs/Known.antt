@@ -4,9 +4,9 @@ use Rattle.std.specs.Prelude.{◌≡◌, ℕ, ◌+◌, ◌-◌, ◌*◌, ◌^◌
 use Rattle.table.specs.Wiring.{wiring_cube, wiring_ring}
 use Rattle.single_crash.specs.Setting.{KnownInGrants, KnownInRounds}
 
--- Rule One dead board on the ring: from four boards on after 5n − 7 grants at the latest, and in the third round
+-- Rule One dead board on the ring: from four boards on after 5n − 8 grants at the latest, and in the third round
 abbrev pub RingInGrants : Type 0
-RingInGrants = (n : ℕ) → 4 ≤ n → KnownInGrants wiring_ring n (5 * n - 7)
+RingInGrants = (n : ℕ) → 4 ≤ n → KnownInGrants wiring_ring n (5 * n - 8)
 
 abbrev pub RingInRounds : Type 0
 RingInRounds = (n : ℕ) → 4 ≤ n → KnownInRounds wiring_ring n 3

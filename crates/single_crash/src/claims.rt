@@ -11,7 +11,7 @@ pub fn sweeps()
 
 // One dead board (specs/Known.antt).
 pub fn one_dead()
-    // On the ring it is known everywhere after 5n − 7 grants.
+    // On the ring it is known everywhere after 5n − 8 grants.
     ensures ring_in_grants { RingInGrants }
     // And in the third round at the latest.
     ensures ring_in_rounds { RingInRounds }
