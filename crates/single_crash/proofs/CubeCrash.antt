@@ -52,7 +52,7 @@ but-one n b m hb =
     omega (arith, sum-add f own n, single, all, rw e at (suc-mul (n - 1) m))
 
 -- a number from 2^h on has a level above h
-level-over : (m h : ℕ) → 2 ^ h ≤ m → suc h ≤ level m
+pub level-over : (m h : ℕ) → 2 ^ h ≤ m → suc h ≤ level m
 level-over m h lo =
     let t = level-split m (omega (arith, pow_pos h)) in
     by_cases (dec_lt h (suc t.0)) (λ l. omega (arith, t.1)) (λ l. absurd (omega (arith, t.3, pow_mono {i = suc t.0} {j = h} (omega arith))))

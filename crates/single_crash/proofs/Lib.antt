@@ -8,6 +8,7 @@ pub mod CubeRun
 pub mod CubeOdd
 pub mod CubeStages
 pub mod CubeCrash
+pub mod CubeKnown
 pub mod Sweeps
 pub mod SweepLaw
 pub mod Running
