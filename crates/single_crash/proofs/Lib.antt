@@ -9,6 +9,7 @@ pub mod CubeOdd
 pub mod CubeStages
 pub mod CubeCrash
 pub mod CubeKnown
+pub mod CubeSlowest
 pub mod Sweeps
 pub mod SweepLaw
 pub mod Running

@@ -12,3 +12,7 @@ CubeInGrants = (n d : ℕ) → 2 ≤ d → n ≡ 2 ^ d → KnownInGrants wiring_
 -- and in the second round, that of the crash being the first
 abbrev pub CubeInRounds : Type 0
 CubeInRounds = (n d : ℕ) → 2 ≤ d → n ≡ 2 ^ d → KnownInRounds wiring_cube n 2
+
+-- and with 8 boards 34 grants are needed: one fewer is not enough
+abbrev pub CubeNoFewer : Type 0
+CubeNoFewer = ¬ (KnownInGrants wiring_cube 8 33)

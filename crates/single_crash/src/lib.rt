@@ -3,3 +3,4 @@
 #![tactic(auto)]
 
 pub mod claims;
+pub mod cube;
