@@ -44,6 +44,17 @@ board-below n b q h le = pick (wrap n b q h le)
     pick (inl w) = omega (arith, w)
     pick (inr w) = omega (arith, w)
 
+-- two boards have two next ones
+pub next-one : (n i j : ℕ) → i < n → j < n → (i + 1) % n ≡ (j + 1) % n → i ≡ j
+next-one n i j hi hj e = pick (wrap n i 1 hi (omega arith)) (wrap n j 1 hj (omega arith))
+  where
+    pick : ((i + 1) % n ≡ i + 1) × (i + 1 < n) ⊎ ((i + 1) % n ≡ i + 1 - n) × (n ≤ i + 1)
+        → ((j + 1) % n ≡ j + 1) × (j + 1 < n) ⊎ ((j + 1) % n ≡ j + 1 - n) × (n ≤ j + 1) → i ≡ j
+    pick (inl a) (inl b) = omega (arith, a.0, b.0)
+    pick (inl a) (inr b) = omega (arith, a.0, b.0)
+    pick (inr a) (inl b) = omega (arith, a.0, b.0)
+    pick (inr a) (inr b) = omega (arith, a.0, b.0)
+
 -- the places of the circle that begins at b
 module _ (n b begins : ℕ) (hb : b < n) (from : BeginsAt n b begins) where
   abbrev place : ℕ → ℕ

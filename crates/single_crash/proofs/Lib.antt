@@ -21,3 +21,7 @@ pub mod RingStages
 pub mod RingLast
 pub mod RingFirst
 pub mod RingKnown
+pub mod Unaware
+pub mod RingSlow
+pub mod FreshSound
+pub mod RingReach

@@ -9,6 +9,7 @@ use native.Mathlib.Decide.{dec_lt, ℕ_discrete}
 use native.Mathlib.Omega.{arith}
 use Rattle.lists.specs.Sums.{sum_below, bit}
 use Rattle.lists.proofs.BoolLaws.{by_bool}
+use Rattle.lists.proofs.SumLaws.{sum-zero}
 use Rattle.table.specs.Sizes.{is_size}
 use Rattle.table.specs.Wiring.{wiring_ring}
 use Rattle.table.specs.Table.{finished_column, next_distance, finished, tests_made, suspects}
@@ -18,12 +19,13 @@ use Rattle.plant.specs.Turn.{kind_turn, next_test, makes_test, outcome_at, turn}
 use Rattle.plant.proofs.RoundLaws.{Reset}
 use Rattle.granter.specs.Drive.{Stand, granted_at, grant_turn, after_grants}
 use Rattle.detection.proofs.TurnEffect.{Company, Row}
+use Rattle.detection.proofs.RoundKnowledge.{all-finished}
 use Rattle.detection.proofs.RingPass.{RingTurn}
 use Rattle.detection.proofs.RingTurns.{ring-turns}
 use Rattle.single_crash.specs.Sweeps.{turns_made}
 use Rattle.single_crash.proofs.Running.{Crew, Running, Closed, WentOn, chosen, is_live, going, kept, heads, moved, closes, goes_on}
 use Rattle.single_crash.proofs.Crashing.{everyone}
-use Rattle.single_crash.proofs.Passes.{Reaches, Passing, passing-start, PassTurn, passing-turn, turn-left, turns_left, left-turn}
+use Rattle.single_crash.proofs.Passes.{Reaches, Passing, made-most, passing-start, PassTurn, passing-turn, turn-left, turns_left, left-turn}
 use Rattle.single_crash.proofs.Around.{board-below}
 
 abbrev w : ℕ
@@ -110,6 +112,18 @@ module _ (n : ℕ) (L : ℕ → Bool) (crew : Crew w n L) (begins : ℕ) (p : St
         let m = moved w n L crew begins p r in
         left-turn n L reach (turns_made n t) (turns_made n t') g pass-turn.below pass-turn.is_live had-left m.own m.others
 
+    -- where the round closes with it, it had the last one
+    pub none-left : round_over n t' ≡ true → left_of n L reach t' ≡ 0
+    unfolding turns_left
+    none-left over =
+        sum-zero n (λ i h.
+        by_bool (L i)
+        (λ l.
+        let done = all-finished w n L t' (kept w n L crew begins p r).plain over i h l in
+        let made = (made-most n L reach (next_distance n t') (tests_made n t') (finished n t') passes-on i h l).1 done in
+        rw l (omega arith))
+        (λ l. rw l))
+
 -- a plant in which every board is live: each makes one test a round
 abbrev pub one : ℕ → ℕ
 one i = 1
@@ -142,7 +156,14 @@ before-fresh n begins q two fresh run = record {
   passes = passes-fresh n everyone one q.state.table fresh (λ i h l. (omega arith, reach-one n everyone i two refl));
 }
 
--- a grant with its turn keeps it so
+-- a grant with its turn keeps it so, where the round goes on and where it closes
+pub before-on : (n : ℕ) (size : is_size n ≡ true) (begins : ℕ) (q : Stand) → Before n begins q
+    → round_over n (turn w n q.state.table kind_turn (granted_at n q)) ≡ false → Before n begins (grant_turn w n q)
+before-on n size begins q before unclosed =
+    let crew = everyone-crew n size in
+    let c = goes_on w n everyone crew begins q before.run unclosed in
+    record { run = c.running; passes = rw c.table (passes-on n everyone crew begins q before.run one before.passes) }
+
 pub before-step : (n : ℕ) → is_size n ≡ true → (begins : ℕ) (q : Stand) → Before n begins q → (c : ℕ) × Before n c (grant_turn w n q)
 before-step n size begins q before =
     let crew = everyone-crew n size in
@@ -150,9 +171,7 @@ before-step n size begins q before =
     (λ over.
     let c = closes w n everyone crew begins q before.run over in
     (_, before-fresh n _ _ (size-bounds n size).0 c.fresh c.running))
-    (λ unclosed.
-    let c = goes_on w n everyone crew begins q before.run unclosed in
-    (begins, record { run = c.running; passes = rw c.table (passes-on n everyone crew begins q before.run one before.passes) }))
+    (λ unclosed. (begins, before-on n size begins q before unclosed))
 
 pub before-all : (n : ℕ) → is_size n ≡ true → (begins : ℕ) (p : Stand) → Before n begins p → (k : ℕ) → (c : ℕ) × Before n c (after_grants w n p k)
 unfolding after_grants

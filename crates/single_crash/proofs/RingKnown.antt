@@ -24,7 +24,7 @@ use Rattle.detection.proofs.TurnEffect.{Plain, Exact}
 use Rattle.detection.proofs.DetectionClaim.{first_round}
 use Rattle.single_crash.specs.Sweeps.{turns_made}
 use Rattle.single_crash.specs.Setting.{Sound, crash_at, behind_crash, RoundsSince, KnownDead}
-use Rattle.single_crash.specs.Known.{RingInGrants, RingInRounds}
+use Rattle.single_crash.specs.Ring.{RingInGrants, RingInRounds}
 use Rattle.single_crash.proofs.Running.{Running, begin, closes, goes_on, stays_known, runs_on}
 use Rattle.single_crash.proofs.Crashing.{everyone, all_but, crash-closes, crash-goes_on, crash-turns, known-dead}
 use Rattle.single_crash.proofs.Around.{before-below, before-apart}

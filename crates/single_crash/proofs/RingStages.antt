@@ -12,7 +12,7 @@ use borrow.Author.Tests.{eqb-true, eq-eqb, ne_eqb}
 use lib.Dec.{eqb}
 use Rattle.lists.specs.Sums.{sum_below, bit}
 use Rattle.lists.proofs.BoolLaws.{by_bool}
-use Rattle.lists.proofs.SumLaws.{sum-add, sum-const, sum-single}
+use Rattle.lists.proofs.SumLaws.{sum_by, sum-add, sum-const, sum-single}
 use Rattle.slots.proofs.Counts.{sum-le}
 use Rattle.table.specs.Sizes.{is_size}
 use Rattle.table.specs.Wiring.{wiring_ring}
@@ -42,10 +42,10 @@ abbrev w : ℕ
 w = wiring_ring
 
 -- a number at place p only
-abbrev at_place : ℕ → ℕ → ℕ → ℕ
+abbrev pub at_place : ℕ → ℕ → ℕ → ℕ
 at_place p v i = cond (eqb i p) v 0
 
-sum-at : (n p v : ℕ) → p < n → sum_below (at_place p v) n ≡ v
+pub sum-at : (n p v : ℕ) → p < n → sum_below (at_place p v) n ≡ v
 sum-at n p v h = sum-single (at_place p v) n p h (λ i l d. rw (ne_eqb i p d) refl) ∙ rw (eq-eqb p p refl) refl
 
 module _ (n b : ℕ) (size : is_size n ≡ true) (four : 4 ≤ n) (hb : b < n) where
@@ -74,7 +74,7 @@ module _ (n b : ℕ) (size : is_size n ≡ true) (four : 4 ≤ n) (hb : b < n) w
   pub a-lives : L a ≡ true
   a-lives = lives a (before-apart n b hb (omega arith))
 
-  c-lives : L c ≡ true
+  pub c-lives : L c ≡ true
   c-lives = lives c (behind-apart n b hb (omega arith))
 
   pub b-dead : L b ≡ false
@@ -124,6 +124,26 @@ module _ (n b : ℕ) (size : is_size n ≡ true) (four : 4 ≤ n) (hb : b < n) w
       omega (
         arith,
         sum-le {f = λ i. f i + at_place b 2 i} {g = λ i. 2 + at_place a 1 i} n most,
+        sum-add f (at_place b 2) n,
+        sum-at n b 2 hb,
+        sum-add (λ i. 2) (at_place a 1) n,
+        sum-at n a 1 a-below,
+        sum-const 2 n,
+      )
+
+  -- just so many where a round begins
+  pub left-fresh : (t : List ℕ) → ((i : ℕ) → i < n → turns_made n t i ≡ 0) → left_of n L two_before t + 1 ≡ n + n
+  unfolding turns_left
+  left-fresh t none =
+      let f : ℕ → ℕ = turns_left L two_before (turns_made n t) in
+      let each : (i : ℕ) → i < n → f i + at_place b 2 i ≡ 2 + at_place a 1 i =
+      λ i h. by_cases (ℕ_discrete i b)
+      (λ e. rw (e, eq-eqb b b refl, ne_eqb b a (λ q. before-apart n b hb (omega arith) (sym q))) (omega arith))
+      (λ d. rw (ne_eqb i b d) (by_cases (ℕ_discrete i a) (λ e. rw (e, eq-eqb a a refl) (omega (arith, none a a-below)))
+      (λ d. rw (ne_eqb i a d) (omega (arith, none i h))))) in
+      omega (
+        arith,
+        sum_by {f = λ i. f i + at_place b 2 i} {g = λ i. 2 + at_place a 1 i} n each,
         sum-add f (at_place b 2) n,
         sum-at n b 2 hb,
         sum-add (λ i. 2) (at_place a 1) n,
@@ -355,7 +375,7 @@ module _ (n b : ℕ) (size : is_size n ≡ true) (four : 4 ≤ n) (hb : b < n) w
         (omega (arith, none, going w n L crew begins p r)) in
         place-one n begins e x fits below x-below (omega (arith, x-place))
 
-    e-place : place e ≡ suc j
+    pub e-place : place e ≡ suc j
     e-place = rw at-next x-place
 
     e-lives : L e ≡ true
@@ -365,13 +385,13 @@ module _ (n b : ℕ) (size : is_size n ≡ true) (four : 4 ≤ n) (hb : b < n) w
     abbrev y : ℕ
     y = (e + 1) % n
 
-    y-place : place y ≡ suc (suc j)
+    pub y-place : place y ≡ suc (suc j)
     y-place = omega (arith, place-next n b begins hb s.from e below (omega (arith, e-place)), e-place)
 
     y-below : y < n
     y-below = board-below n e 1 below (omega arith)
 
-    y-lives : L y ≡ true
+    pub y-lives : L y ≡ true
     y-lives = lives y (λ q. omega (arith, y-place, rw (← q) at (place-zero n b begins hb s.from)))
 
     y-hears : suspects n u' y b ≡ 1

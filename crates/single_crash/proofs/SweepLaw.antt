@@ -141,7 +141,7 @@ module _ (w n : ℕ) (p : Stand) (granted : grant_refusal w n p.state.table p.la
   fits : begins ≤ n
   fits = begins-fits n p.last (grantable w n p.state.table p.last granted).last_fits
 
-  none-made : (i : ℕ) → i < n → turns_made n p.state.table i ≡ 0
+  pub none-made : (i : ℕ) → i < n → turns_made n p.state.table i ≡ 0
   unfolding at_start
   none-made i h =
       let made : ℕ = tests_made n p.state.table i in

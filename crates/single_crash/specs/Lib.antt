@@ -2,4 +2,4 @@
 pub mod Cube
 pub mod Sweeps
 pub mod Setting
-pub mod Known
+pub mod Ring

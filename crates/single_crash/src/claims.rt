@@ -1,6 +1,7 @@
-// What is claimed of grants (specs/Sweeps.antt) and of one dead board (specs/Known.antt), each a clause of a function that does nothing.
+// What is claimed of grants (specs/Sweeps.antt), and that the plant can be as it is supposed to be (specs/Setting.antt), each a clause of a function
+// that does nothing.
 
-ghost use Rattle.single_crash.specs.Known.{RingInGrants, RingInRounds};
+ghost use Rattle.single_crash.specs.Setting.{FreshIsSound};
 ghost use Rattle.single_crash.specs.Sweeps.{GrantsGoInSweeps};
 
 // The order of grants in a round (specs/Sweeps.antt).
@@ -9,10 +10,8 @@ pub fn sweeps()
     ensures in_sweeps { GrantsGoInSweeps }
 {}
 
-// One dead board (specs/Known.antt).
-pub fn one_dead()
-    // On the ring it is known everywhere after 5n − 8 grants.
-    ensures ring_in_grants { RingInGrants }
-    // And in the third round at the latest.
-    ensures ring_in_rounds { RingInRounds }
+// What is supposed of the plant before the crash (specs/Setting.antt).
+pub fn sound_plant()
+    // A plant with a fresh table is sound.
+    ensures fresh_is_sound { FreshIsSound }
 {}
