@@ -30,7 +30,7 @@ use Rattle.single_crash.proofs.Running.{Crew, Running, chosen, going, heads, clo
 use Rattle.single_crash.proofs.Crashing.{everyone, all_but, crash-plain, crash-same, crash-closes, crash-goes_on, known-dead}
 use Rattle.single_crash.proofs.Passes.{turns_left}
 use Rattle.single_crash.proofs.CubePace.{Cubic, few-none, beside-none, OnPace, pace-start, pace-same, pace-own, pace-paced}
-use Rattle.single_crash.proofs.CubeWays.{by_digits, by_distance, distance-some, digits-all}
+use Rattle.single_crash.proofs.CubeWays.{by_digits, by_distance, distance-some, beside-of, digits-all}
 use Rattle.single_crash.proofs.CubeRun.{OthersLive, cube-crew, four, pace-turn}
 use Rattle.single_crash.proofs.CubeStages.{turns_to, left_to, left_with, but-others, but-apart, Spread, Gather, AllAware, spread-less, spread-on}
 use Rattle.single_crash.proofs.CubeStages.{spread-over, spread-left, gather-less, gather-on, gather-over, gather-aware, aware-on}
@@ -195,10 +195,12 @@ module _ (n d b : ℕ) (c : Cubic n d) (hb : b < n) (round : ℕ) where
       begins = begins;
       running = run;
       pace = rw is crash-pace;
-      odd = rw is (record {
-        begun = λ z h e. omega (arith, crash-tests z, found.begun some z h e);
-        even = λ x h e one. absurd (omega (arith, nobody x h));
-      });
+      near = rw is (record {
+          behind = λ z h hz l e.
+              let zero : h ≡ 0 = omega arith in
+              omega (arith, zero, crash-tests z, found.begun some z hz (beside-of z b (rw zero at e)));
+          aware = λ x h e one. absurd (omega (arith, nobody x h));
+        });
       learned = rw is (λ x h e whole few. absurd (omega (arith, crash-tests x, found.ahead x h e whole)));
     }
 

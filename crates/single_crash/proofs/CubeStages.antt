@@ -34,7 +34,7 @@ use Rattle.single_crash.proofs.CubePace.{Cubic, OnPace, Paced, pace-start, pace-
 use Rattle.single_crash.proofs.CubeLearn.{Learned, learned-next, learned-ended}
 use Rattle.single_crash.proofs.CubeWays.{Multiple, by_distance, by_digits, way-distance, way-digits, digits-most, digits-none}
 use Rattle.single_crash.proofs.CubeRun.{OthersLive, cube-crew, fewest, fewest-turns, paced-turn, granted-other}
-use Rattle.single_crash.proofs.CubeOdd.{OddUnaware, odd-pace, odd-turn}
+use Rattle.single_crash.proofs.CubeNear.{NearUnaware, near-pace, near-turn}
 
 -- the turns that board i has left to s, if it waits
 unfoldable pub turns_to : (ℕ → Bool) → ℕ → (ℕ → ℕ) → ℕ → ℕ
@@ -83,7 +83,7 @@ pub record Spread (n d b s : ℕ) (p : Stand) : Type 0 where
   pub begins : ℕ
   pub running : Running wiring_cube n (all_but b) begins p
   pub pace : (i : ℕ) → i < n → i ≢ b → OnPace n d p.state.table i
-  pub odd : OddUnaware n b p.state.table
+  pub near : NearUnaware n b 1 p.state.table
   pub learned : Learned n b (Multiple b s) (by_distance b) p.state.table
 
 -- in the next one: all learn, each by the test at the level of the last s digits of its distance
@@ -127,7 +127,7 @@ module _ (n d b : ℕ) (c : Cubic n d) (hb : b < n) (s : ℕ) (le : s ≤ d) (p 
     spread-paced i h q = pace-paced n d b c t i (r.pace i h q)
 
     spread-pace' : (i : ℕ) → i < n → i ≢ b → OnPace n d t' i
-    spread-pace' = odd-pace n d b (all_but b) c others (but-dead b) hb r.begins p r.running r.pace r.odd
+    spread-pace' = near-pace n d b (all_but b) c others (but-dead b) hb r.begins p r.running r.pace 1 (omega arith) (omega (arith, c.levels)) r.near
 
     spread-learned' : Learned n b (Multiple b s) (by_distance b) t'
     spread-learned' =
@@ -154,7 +154,7 @@ module _ (n d b : ℕ) (c : Cubic n d) (hb : b < n) (s : ℕ) (le : s ≤ d) (p 
           begins = _;
           running = w.running;
           pace = rw w.table spread-pace';
-          odd = rw w.table (odd-turn n d b (all_but b) c others (but-dead b) hb r.begins p r.running r.pace r.odd);
+          near = rw w.table (near-turn n d b (all_but b) c others (but-dead b) hb r.begins p r.running r.pace 1 (omega arith) (omega (arith, c.levels)) r.near);
           learned = rw w.table spread-learned';
         }
 

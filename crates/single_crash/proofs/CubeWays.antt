@@ -43,6 +43,9 @@ distance-some x b apart = let far : distance x b ≢ 0 = λ z. apart (xor-zero-e
 pub distance-beside : (x b : ℕ) → station_at x 1 ≡ b → distance x b ≡ 1
 distance-beside x b e = ap (bit_xor x) (sym e) ∙ xor-cancel x 1
 
+pub beside-of : (x b : ℕ) → distance x b ≡ 1 → station_at x 1 ≡ b
+beside-of x b e = rw (← e) (xor-cancel x b)
+
 -- the distance is a multiple of 2^s
 abbrev pub Multiple : ℕ → ℕ → ℕ → Type 0
 Multiple b s x = distance x b % 2 ^ s ≡ 0

@@ -5,7 +5,7 @@ pub mod CubeLearn
 pub mod CubeWays
 pub mod Heard
 pub mod CubeRun
-pub mod CubeOdd
+pub mod CubeNear
 pub mod CubeStages
 pub mod CubeCrash
 pub mod CubeKnown
