@@ -9,6 +9,7 @@ pub mod CubeNear
 pub mod CubeStages
 pub mod CubeCrash
 pub mod CubeKnown
+pub mod CubeOrder
 pub mod CubeSlowest
 pub mod Sweeps
 pub mod SweepLaw
