@@ -32,55 +32,10 @@ use Rattle.single_crash.proofs.Passes.{turns_left}
 use Rattle.single_crash.proofs.CubePace.{Cubic, few-none, beside-none, OnPace, pace-start, pace-same, pace-own, pace-paced}
 use Rattle.single_crash.proofs.CubeWays.{by_digits, by_distance, distance-some, beside-of, digits-all}
 use Rattle.single_crash.proofs.CubeRun.{OthersLive, cube-crew, four, pace-turn}
+use Rattle.single_crash.proofs.CubeWhole.{Whole, full_crew, whole-after}
 use Rattle.single_crash.proofs.CubeStages.{turns_to, left_to, left_with, but-others, but-apart, Spread, Gather, AllAware, spread-less, spread-on}
 use Rattle.single_crash.proofs.CubeStages.{spread-over, spread-left, gather-less, gather-on, gather-over, gather-aware, aware-on}
 use Rattle.single_crash.proofs.CubeCrash.{enough, but-one, level-over, Cut, cut}
-
--- before the crash: every board is live, suspects nobody and is on pace
-pub record Whole (n d : ℕ) (p : Stand) : Type 0 where
-  pub begins : ℕ
-  pub running : Running wiring_cube n everyone begins p
-  pub pace : (i : ℕ) → i < n → OnPace n d p.state.table i
-
-module _ (n d : ℕ) (c : Cubic n d) where
-  all_live : OthersLive n n everyone
-  all_live x h q = refl
-
-  abbrev full_crew : Crew wiring_cube n everyone
-  full_crew = cube-crew n d n everyone c all_live
-
-  whole-next : (p : Stand) → Whole n d p → Whole n d (grant_turn wiring_cube n p)
-  whole-next p r =
-      by_bool (round_over n t')
-      (λ over.
-      let w = closes wiring_cube n everyone full_crew r.begins p r.running over in
-      record { begins = _; running = w.running; pace = λ i h. pace-start n d _ i (w.fresh i h) })
-      (λ on.
-      let w = goes_on wiring_cube n everyone full_crew r.begins p r.running on in
-      record { begins = _; running = w.running; pace = rw w.table turned })
-    where
-      t : List ℕ
-      t = p.state.table
-
-      g : ℕ
-      g = granted_at n p
-
-      t' : List ℕ
-      t' = turn wiring_cube n t kind_turn g
-
-      turned : (i : ℕ) → i < n → OnPace n d t' i
-      turned i h =
-          let below = (chosen wiring_cube n everyone full_crew r.begins p r.running).0 in
-          let few = few-none n d c t r.running.plain.lines g below (λ x hx. r.running.plain.accurate g x below hx refl refl) in
-          let own =
-          pace-own n d c t g n few (going wiring_cube n everyone full_crew r.begins p r.running) t' _
-          (heads wiring_cube n everyone full_crew r.begins p r.running) (beside-none n d c g below) in
-          pace-turn n d n everyone c all_live r.begins p r.running own i (r.pace i h)
-
-  pub whole-after : (p : Stand) (k : ℕ) → Whole n d p → Whole n d (after_grants wiring_cube n p k)
-  unfolding after_grants
-  whole-after p zero r = r
-  whole-after p (suc k) r = whole-next _ (whole-after p k r)
 
 -- k grants behind the crash of b, in a round that had number `round`: how far the plant is
 pub data Phase (n d b round k : ℕ) (p : Stand) : Type 0 where
@@ -225,20 +180,20 @@ module _ (n d b : ℕ) (c : Cubic n d) (hb : b < n) (round : ℕ) where
 
 -- a sound plant
 module _ (n d : ℕ) (levels : 2 ≤ d) (power : n ≡ 2 ^ d) (p : Stand) (sound : Sound wiring_cube n p) where
-  taken : Grantable wiring_cube n p.state.table p.last
+  pub taken : Grantable wiring_cube n p.state.table p.last
   taken = grantable wiring_cube n p.state.table p.last sound.granted
 
   pub sound-cubic : Cubic n d
   sound-cubic = record { size = taken.ok.size; power = power; levels = levels }
 
-  sound-plain : Plain wiring_cube n everyone p.state.table
+  pub sound-plain : Plain wiring_cube n everyone p.state.table
   sound-plain = record {
     lines = (taken.ok.long, accepted-line wiring_cube n p.state.table taken.ok);
     lives = sound.all_live;
     accurate = λ i j hi hj a c. sound.nobody i j hi hj;
   }
 
-  sound-fresh : (i : ℕ) → i < n → Reset n p.state.table i
+  pub sound-fresh : (i : ℕ) → i < n → Reset n p.state.table i
   sound-fresh = (first_round wiring_cube n p.state.table taken.ok sound.start (λ i j h k a c. sound.nobody i j h k)).fresh
 
   sound-whole : Whole n d p

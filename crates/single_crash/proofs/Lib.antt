@@ -8,6 +8,7 @@ pub mod CubeRun
 pub mod CubeNear
 pub mod CubeStages
 pub mod CubeCrash
+pub mod CubeWhole
 pub mod CubeKnown
 pub mod CubeOrder
 pub mod CubeSlowest
