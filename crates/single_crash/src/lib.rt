@@ -3,4 +3,5 @@
 #![tactic(auto)]
 
 pub mod claims;
+pub mod cube;
 pub mod ring;
