@@ -18,9 +18,9 @@ use Rattle.lists.proofs.BoolLaws.{by_bool}
 use Rattle.lists.proofs.SumLaws.{sum_by, sum-add, sum-single, sum-const}
 use Rattle.lists.proofs.Xor.{xor-cancel}
 use Rattle.table.specs.Sizes.{level}
-use Rattle.table.specs.Wiring.{wiring_cube}
 use Rattle.table.specs.Table.{finished, tests_made, suspects}
 use Rattle.table.proofs.Levels.{level-split, level-bounds}
+use Rattle.table.specs.declared.wiring.Wiring.TheVariants.{Cube}
 use Rattle.station.specs.Groups.{distance, station_at}
 use Rattle.slots.proofs.Counts.{sum-le}
 use Rattle.granter.specs.Grant.{waits}
@@ -72,12 +72,12 @@ pub record Cut (n d b : ℕ) (t : List ℕ) : Type 0 where
   pub begun : 1 ≤ s → (z : ℕ) → z < n → station_at z 1 ≡ b → 1 ≤ tests_made n t z
   pub small : 1 ≤ s → left_with n d b s t ≤ enough n d
 
-module _ (n d b : ℕ) (c : Cubic n d) (hb : b < n) (begins : ℕ) (q : Stand) (r : Running wiring_cube n everyone begins q)
+module _ (n d b : ℕ) (c : Cubic n d) (hb : b < n) (begins : ℕ) (q : Stand) (r : Running Cube n everyone begins q)
     (pace : (i : ℕ) → i < n → OnPace n d q.state.table i) where
   abbrev t : List ℕ
   t = q.state.table
 
-  abbrev crew : Crew wiring_cube n everyone
+  abbrev crew : Crew Cube n everyone
   crew = cube-crew n d b everyone c (λ x h e. refl)
 
   abbrev sweep : ℕ
@@ -95,8 +95,8 @@ module _ (n d b : ℕ) (c : Cubic n d) (hb : b < n) (begins : ℕ) (q : Stand) (
 
   sweep-most : sweep ≤ suc d
   sweep-most =
-      let at = chosen wiring_cube n everyone crew begins q r in
-      let zero = going wiring_cube n everyone crew begins q r in
+      let at = chosen Cube n everyone crew begins q r in
+      let zero = going Cube n everyone crew begins q r in
       omega (arith, waiting-turns (granted_at n q) at.0 at.1, zero, ((pace (granted_at n q) at.0).going zero).0)
 
   turns-low : (i : ℕ) → i < n → sweep ≤ suc (turns_made n t i)

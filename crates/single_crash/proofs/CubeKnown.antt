@@ -10,10 +10,10 @@ use native.Mathlib.Decide.{ℕ_discrete, dec_lt}
 use native.Mathlib.Omega.{arith}
 use Rattle.lists.proofs.BoolLaws.{by_bool}
 use Rattle.lists.proofs.SumLaws.{sum_by}
-use Rattle.table.specs.Wiring.{wiring_cube}
 use Rattle.table.specs.Table.{head, stride, cell, next_column, finished_column, tests_column, finished, tests_made, suspects}
 use Rattle.table.specs.Rules.{round_over}
 use Rattle.table.proofs.CellLaws.{accepted-line}
+use Rattle.table.specs.declared.wiring.Wiring.TheVariants.{Cube}
 use Rattle.plant.specs.Turn.{kind_turn, turn, crash}
 use Rattle.plant.proofs.RoundLaws.{Reset}
 use Rattle.station.specs.Groups.{distance}
@@ -45,36 +45,36 @@ pub data Phase (n d b round k : ℕ) (p : Stand) : Type 0 where
   all_know : AllAware n b p → Phase n d b round k p
 
 module _ (n d b : ℕ) (c : Cubic n d) (hb : b < n) (round : ℕ) where
-  phase-next : (k : ℕ) (p : Stand) → Phase n d b round k p → Phase n d b round (suc k) (grant_turn wiring_cube n p)
+  phase-next : (k : ℕ) (p : Stand) → Phase n d b round k p → Phase n d b round (suc k) (grant_turn Cube n p)
   phase-next k p (same_round s le r e few) =
       let less = spread-less n d b c hb s le p r in
-      by_bool (round_over n (turn wiring_cube n p.state.table kind_turn (granted_at n p)))
+      by_bool (round_over n (turn Cube n p.state.table kind_turn (granted_at n p)))
       (λ over.
-      let w = closes wiring_cube n (all_but b) (cube-crew n d b (all_but b) c (but-others n b)) r.begins p r.running over in
+      let w = closes Cube n (all_but b) (cube-crew n d b (all_but b) c (but-others n b)) r.begins p r.running over in
       let left = spread-left n d b c hb s le p r over in
       next_round s le (spread-over n d b c hb s le p r over) (omega (arith, w.rounds)) (omega (arith, less, left)))
       (λ on.
-      let w = goes_on wiring_cube n (all_but b) (cube-crew n d b (all_but b) c (but-others n b)) r.begins p r.running on in
+      let w = goes_on Cube n (all_but b) (cube-crew n d b (all_but b) c (but-others n b)) r.begins p r.running on in
       same_round s le (spread-on n d b c hb s le p r on) (w.rounds ∙ e) (rw w.table (omega (arith, less))))
   phase-next k p (next_round s le r e few) =
       by_cases (dec_lt (turns_made n p.state.table (granted_at n p)) s)
       (λ l.
       let less = gather-less n d b c hb s le p r l in
-      by_bool (round_over n (turn wiring_cube n p.state.table kind_turn (granted_at n p)))
+      by_bool (round_over n (turn Cube n p.state.table kind_turn (granted_at n p)))
       (λ over. all_know (gather-over n d b c hb s le p r over))
       (λ on.
-      let w = goes_on wiring_cube n (all_but b) (cube-crew n d b (all_but b) c (but-others n b)) r.begins p r.running on in
+      let w = goes_on Cube n (all_but b) (cube-crew n d b (all_but b) c (but-others n b)) r.begins p r.running on in
       next_round s le (gather-on n d b c hb s le p r on) (omega (arith, w.rounds)) (rw w.table (omega (arith, less)))))
       (λ l. all_know (aware-on n d b c p (gather-aware n d b c hb s le p r (omega arith))))
   phase-next k p (all_know r) = all_know (aware-on n d b c p r)
 
-  pub phase-after : (p : Stand) (g : ℕ) → Phase n d b round 0 p → Phase n d b round g (after_grants wiring_cube n p g)
+  pub phase-after : (p : Stand) (g : ℕ) → Phase n d b round 0 p → Phase n d b round g (after_grants Cube n p g)
   unfolding after_grants
   phase-after p zero f = f
   phase-after p (suc g) f = phase-next g _ (phase-after p g f)
 
   aware-dead : (p : Stand) → AllAware n b p → KnownDead n p.state.table b
-  aware-dead p r = known-dead wiring_cube n b p.state.table r.running.plain r.exact
+  aware-dead p r = known-dead Cube n b p.state.table r.running.plain r.exact
 
   -- after so many grants, and so many rounds
   pub phase-grants : (k : ℕ) (p : Stand) → enough n d ≤ k → Phase n d b round k p → KnownDead n p.state.table b
@@ -91,7 +91,7 @@ module _ (n d b : ℕ) (c : Cubic n d) (hb : b < n) (round : ℕ) where
   phase-rounds k p far (all_know r) = aware-dead p r
 
   -- in a round of which nothing helps d sweeps are enough
-  from-now : (p : Stand) (begins : ℕ) → Running wiring_cube n (all_but b) begins p → ((i : ℕ) → i < n → i ≢ b → OnPace n d p.state.table i)
+  from-now : (p : Stand) (begins : ℕ) → Running Cube n (all_but b) begins p → ((i : ℕ) → i < n → i ≢ b → OnPace n d p.state.table i)
       → ((x : ℕ) → x < n → x ≢ b → tests_made n p.state.table x < by_distance b x) → p.state.rounds ≤ suc round → Phase n d b round 0 p
   unfolding turns_to
   from-now p begins run pace ahead e =
@@ -113,17 +113,17 @@ module _ (n d b : ℕ) (c : Cubic n d) (hb : b < n) (round : ℕ) where
 
   -- the crash
   module _ (q : Stand) (w : Whole n d q) (same : q.state.rounds ≡ round) where
-    abbrev crew : Crew wiring_cube n (all_but b)
+    abbrev crew : Crew Cube n (all_but b)
     crew = cube-crew n d b (all_but b) c (but-others n b)
 
     abbrev v : List ℕ
     v = crash n q.state.table b
 
     abbrev q' : Stand
-    q' = crash_at wiring_cube n q b
+    q' = crash_at Cube n q b
 
     bytes : (k j : ℕ) → 1 ≤ j → j < stride n → cell n v k j ≡ cell n q.state.table k j
-    bytes = crash-same wiring_cube n b w.begins q crew hb w.running
+    bytes = crash-same Cube n b w.begins q crew hb w.running
 
     crash-pace : (i : ℕ) → i < n → i ≢ b → OnPace n d v i
     crash-pace i h e =
@@ -145,7 +145,7 @@ module _ (n d b : ℕ) (c : Cubic n d) (hb : b < n) (round : ℕ) where
     ahead : (x : ℕ) → x < n → x ≢ b → s ≡ 0 → tests_made n v x < by_distance b x
     ahead x h e z = omega (arith, crash-tests x, found.ahead x h e (rw z (mod-one _)))
 
-    spread : (begins : ℕ) → Running wiring_cube n (all_but b) begins q' → q'.state.table ≡ v → 1 ≤ s → Spread n d b s q'
+    spread : (begins : ℕ) → Running Cube n (all_but b) begins q' → q'.state.table ≡ v → 1 ≤ s → Spread n d b s q'
     spread begins run is some = record {
       begins = begins;
       running = run;
@@ -167,11 +167,11 @@ module _ (n d b : ℕ) (c : Cubic n d) (hb : b < n) (round : ℕ) where
     phase-crash =
         by_bool (round_over n v)
         (λ over.
-        let z = crash-closes wiring_cube n b w.begins q crew hb w.running over in
+        let z = crash-closes Cube n b w.begins q crew hb w.running over in
         from-now q' _ z.running (λ i h e. pace-start n d _ i (z.fresh i h))
         (λ x h e. omega (arith, (z.fresh x h).untested, level-over (distance x b) 0 (distance-some x b e))) (omega (arith, z.rounds)))
         (λ on.
-        let z = crash-goes_on wiring_cube n b w.begins q crew hb w.running on in
+        let z = crash-goes_on Cube n b w.begins q crew hb w.running on in
         by_cases (ℕ_discrete s 0)
         (λ none. from-now q' _ z.running (rw z.table crash-pace) (rw z.table (λ x h e. ahead x h e none)) (omega (arith, z.rounds)))
         (λ some.
@@ -179,37 +179,37 @@ module _ (n d b : ℕ) (c : Cubic n d) (hb : b < n) (round : ℕ) where
         (rw z.table (omega (arith, left-same, found.small (omega arith))))))
 
 -- a sound plant
-module _ (n d : ℕ) (levels : 2 ≤ d) (power : n ≡ 2 ^ d) (p : Stand) (sound : Sound wiring_cube n p) where
-  pub taken : Grantable wiring_cube n p.state.table p.last
-  taken = grantable wiring_cube n p.state.table p.last sound.granted
+module _ (n d : ℕ) (levels : 2 ≤ d) (power : n ≡ 2 ^ d) (p : Stand) (sound : Sound Cube n p) where
+  pub taken : Grantable Cube n p.state.table p.last
+  taken = grantable Cube n p.state.table p.last sound.granted
 
   pub sound-cubic : Cubic n d
   sound-cubic = record { size = taken.ok.size; power = power; levels = levels }
 
-  pub sound-plain : Plain wiring_cube n everyone p.state.table
+  pub sound-plain : Plain Cube n everyone p.state.table
   sound-plain = record {
-    lines = (taken.ok.long, accepted-line wiring_cube n p.state.table taken.ok);
+    lines = (taken.ok.long, accepted-line Cube n p.state.table taken.ok);
     lives = sound.all_live;
     accurate = λ i j hi hj a c. sound.nobody i j hi hj;
   }
 
   pub sound-fresh : (i : ℕ) → i < n → Reset n p.state.table i
-  sound-fresh = (first_round wiring_cube n p.state.table taken.ok sound.start (λ i j h k a c. sound.nobody i j h k)).fresh
+  sound-fresh = (first_round Cube n p.state.table taken.ok sound.start (λ i j h k a c. sound.nobody i j h k)).fresh
 
   sound-whole : Whole n d p
   sound-whole = record {
     begins = _;
-    running = begin wiring_cube n everyone (full_crew n d sound-cubic) p sound-plain sound-fresh taken.last_fits;
+    running = begin Cube n everyone (full_crew n d sound-cubic) p sound-plain sound-fresh taken.last_fits;
     pace = λ i h. pace-start n d p.state.table i (sound-fresh i h);
   }
 
   module _ (k b g : ℕ) (hb : b < n) where
     abbrev before : Stand
-    before = after_grants wiring_cube n p k
+    before = after_grants Cube n p k
 
-    pub sound-phase : Phase n d b before.state.rounds g (behind_crash wiring_cube n p k b g)
+    pub sound-phase : Phase n d b before.state.rounds g (behind_crash Cube n p k b g)
     sound-phase =
-        phase-after n d b sound-cubic hb before.state.rounds (crash_at wiring_cube n before b) g
+        phase-after n d b sound-cubic hb before.state.rounds (crash_at Cube n before b) g
         (phase-crash n d b sound-cubic hb before.state.rounds before (whole-after n d sound-cubic p k sound-whole) refl)
 
 -- the claims, ends in themselves

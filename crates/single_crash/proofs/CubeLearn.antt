@@ -12,8 +12,8 @@ use native.Mathlib.Omega.{arith}
 use lib.Bits.{xor_lt}
 use lib.Pow.{pow_pos, pow_mono}
 use Rattle.lists.proofs.BoolLaws.{by_bool}
-use Rattle.table.specs.Wiring.{wiring_cube}
 use Rattle.table.specs.Table.{tests_column, finished, tests_made, suspects, row}
+use Rattle.table.specs.declared.wiring.Wiring.TheVariants.{Cube}
 use Rattle.station.specs.Groups.{station_at}
 use Rattle.station.proofs.WiredLaws.{cube-station}
 use Rattle.plant.specs.Turn.{next_test, makes_test}
@@ -48,8 +48,8 @@ module _ (n d b : ℕ) (L : ℕ → Bool) (c : Cubic n d) (others : (x : ℕ) �
         (λ e. omega (arith, way.most x hx apart s, (p.far e).ended f)))
 
     -- a turn of i, while no other that waits has made fewer tests
-    module _ (p : Plain wiring_cube n L t) (dead : L b ≡ false) (i : ℕ) (hi : i < n) (apart : i ≢ b) (t' : List ℕ) (o : ℕ)
-        (heads : Heads wiring_cube n t t' i o (makes_test wiring_cube n t i)) (kept : TurnKept wiring_cube n L t t' i o)
+    module _ (p : Plain Cube n L t) (dead : L b ≡ false) (i : ℕ) (hi : i < n) (apart : i ≢ b) (t' : List ℕ) (o : ℕ)
+        (heads : Heads Cube n t t' i o (makes_test Cube n t i)) (kept : TurnKept Cube n L t t' i o)
         (unfinished : finished n t i ≡ 0) (fewest : (x : ℕ) → x < n → x ≢ b → finished n t x ≡ 0 → tests_made n t i ≤ tests_made n t x) where
       abbrev made : ℕ
       made = tests_made n t i
@@ -65,7 +65,7 @@ module _ (n d b : ℕ) (L : ℕ → Bool) (c : Cubic n d) (others : (x : ℕ) �
           (λ f. learned-ended x hx far s (omega (arith, f, (p.lines.1 x hx).pass.finished_range)))
 
       -- the test at which it learns
-      level-test : makes_test wiring_cube n t i ≡ true → need i ≡ suc made → next_test wiring_cube n t i ≡ 2 ^ made
+      level-test : makes_test Cube n t i ≡ true → need i ≡ suc made → next_test Cube n t i ≡ 2 ^ made
       level-test e here =
           by_cases (ℕ_discrete (station_at i 1) b)
           (λ q.
@@ -73,14 +73,14 @@ module _ (n d b : ℕ) (L : ℕ → Bool) (c : Cubic n d) (others : (x : ℕ) �
           rw none (first-test n d c t i b few unfinished (paced i hi apart).begins none))
           (λ q. (pace-test n d c t i b few unfinished q ((paced i hi apart).far q) e).1)
 
-      test-teaches : makes_test wiring_cube n t i ≡ true → Learns i → need i ≡ suc made → suspects n t' i b ≡ 1
+      test-teaches : makes_test Cube n t i ≡ true → Learns i → need i ≡ suc made → suspects n t' i b ≡ 1
       test-teaches e s here =
           let y : ℕ = station_at i (2 ^ made) in
           let small : 2 ^ made < 2 ^ d =
           omega (arith, pow_pos made, pow_mono {i = suc made} {j = d} (omega (arith, way.most i hi apart s))) in
           let hy : y < n = omega (arith, c.power, xor_lt d i (2 ^ made) (omega (arith, c.power)) small) in
           let at = level-test e here in
-          let tested : Tested n L (Row n t i) (Row n t y) t' i y = rw (at, cube-station wiring_cube n i (2 ^ made) refl) at (kept.tests e) in
+          let tested : Tested n L (Row n t i) (Row n t y) t' i y = rw (at, cube-station Cube n i (2 ^ made) refl) at (kept.tests e) in
           by_cases (ℕ_discrete y b)
           (λ q. rw q at (tested.finds (rw q dead)))
           (λ q.
@@ -99,6 +99,6 @@ module _ (n d b : ℕ) (L : ℕ → Bool) (c : Cubic n d) (others : (x : ℕ) �
           own s l =
               by_cases (dec_le (need i) made)
               (λ m. kept.grows i b hi hb (known i hi apart s m))
-              (λ m. by_bool (makes_test wiring_cube n t i)
+              (λ m. by_bool (makes_test Cube n t i)
               (λ e. test-teaches e s (omega (arith, rw e at heads.tests)))
               (λ e. absurd (omega (arith, rw e at heads.tests))))

@@ -13,8 +13,8 @@ use lib.Bits.{bit_xor, xor_mod}
 use lib.Pow.{pow_mono}
 use Rattle.lists.proofs.BoolLaws.{by_bool}
 use Rattle.lists.proofs.Xor.{xor-cancel, xor-undo}
-use Rattle.table.specs.Wiring.{wiring_cube}
 use Rattle.table.specs.Table.{finished, tests_made, suspects, row}
+use Rattle.table.specs.declared.wiring.Wiring.TheVariants.{Cube}
 use Rattle.station.specs.Groups.{distance, station_at}
 use Rattle.station.specs.Wired.{wired_station}
 use Rattle.station.proofs.WiredLaws.{cube-station}
@@ -40,7 +40,7 @@ pub record NearUnaware (n b s : ℕ) (t : List ℕ) : Type 0 where
   pub aware : (x : ℕ) → x < n → x ≢ b → suspects n t x b ≡ 1 → Multiple b s x × AllMade n b s t
 
 module _ (n d b : ℕ) (L : ℕ → Bool) (c : Cubic n d) (others : OthersLive n b L) (dead : L b ≡ false) (hb : b < n) (begins : ℕ) (p : Stand)
-    (r : Running wiring_cube n L begins p) (pace : (i : ℕ) → i < n → i ≢ b → OnPace n d p.state.table i) (s : ℕ) (some : 1 ≤ s) (le : s ≤ d)
+    (r : Running Cube n L begins p) (pace : (i : ℕ) → i < n → i ≢ b → OnPace n d p.state.table i) (s : ℕ) (some : 1 ≤ s) (le : s ≤ d)
     (near : NearUnaware n b s p.state.table) where
   abbrev t : List ℕ
   t = p.state.table
@@ -52,13 +52,13 @@ module _ (n d b : ℕ) (L : ℕ → Bool) (c : Cubic n d) (others : OthersLive n
   made = tests_made n t g
 
   abbrev t' : List ℕ
-  t' = turn wiring_cube n t kind_turn g
+  t' = turn Cube n t kind_turn g
 
-  abbrev crew : Crew wiring_cube n L
+  abbrev crew : Crew Cube n L
   crew = cube-crew n d b L c others
 
   below : g < n
-  below = (chosen wiring_cube n L crew begins p r).0
+  below = (chosen Cube n L crew begins p r).0
 
   apart : g ≢ b
   apart = granted-other n d b L c others begins p r dead
@@ -79,10 +79,10 @@ module _ (n d b : ℕ) (L : ℕ → Bool) (c : Cubic n d) (others : OthersLive n
   module _ (z : ℕ) (few : Few d (row n t g) g z) (far : station_at g 1 ≢ z) where
     own-pace : OnPace n d t g → OnPace n d t' g
     own-pace paced =
-        pace-own n d c t g z few (going wiring_cube n L crew begins p r) t' _ (heads wiring_cube n L crew begins p r) far paced
+        pace-own n d c t g z few (going Cube n L crew begins p r) t' _ (heads Cube n L crew begins p r) far paced
 
-    own-test : makes_test wiring_cube n t g ≡ true → next_test wiring_cube n t g ≡ 2 ^ made
-    own-test e = (pace-test n d c t g z few (going wiring_cube n L crew begins p r) far (pace g below apart) e).1
+    own-test : makes_test Cube n t g ≡ true → next_test Cube n t g ≡ 2 ^ made
+    own-test e = (pace-test n d c t g z few (going Cube n L crew begins p r) far (pace g below apart) e).1
 
   -- by whether it is beside b
   by_place : (C : Type 0) → ((z : ℕ) → Few d (row n t g) g z → station_at g 1 ≢ z → C) → C
@@ -94,8 +94,8 @@ module _ (n d b : ℕ) (L : ℕ → Bool) (c : Cubic n d) (others : OthersLive n
   pub near-pace : (i : ℕ) → i < n → i ≢ b → OnPace n d t' i
   near-pace i h q = pace-turn n d b L c others begins p r (by_place (OnPace n d t g → OnPace n d t' g) own-pace) i (pace i h q)
 
-  pub near-test : makes_test wiring_cube n t g ≡ true → next_test wiring_cube n t g ≡ 2 ^ made
-  near-test = by_place (makes_test wiring_cube n t g ≡ true → next_test wiring_cube n t g ≡ 2 ^ made) own-test
+  pub near-test : makes_test Cube n t g ≡ true → next_test Cube n t g ≡ 2 ^ made
+  near-test = by_place (makes_test Cube n t g ≡ true → next_test Cube n t g ≡ 2 ^ made) own-test
 
   -- where the granted board has made s tests all have
   all-made : s ≤ made → AllMade n b s t
@@ -142,13 +142,13 @@ module _ (n d b : ℕ) (L : ℕ → Bool) (c : Cubic n d) (others : OthersLive n
     where
       by_turn : (x : ℕ) → x < n → x ≢ b → suspects n t' x b ≡ 1 → Multiple b s x × AllMade n b s t
       by_turn x hx q one =
-          let live = is_live wiring_cube n L crew begins p r in
-          let unfinished = going wiring_cube n L crew begins p r in
-          by_bool (makes_test wiring_cube n t g)
+          let live = is_live Cube n L crew begins p r in
+          let unfinished = going Cube n L crew begins p r in
+          by_bool (makes_test Cube n t g)
           (λ e.
-          let at : wired_station wiring_cube n g (next_test wiring_cube n t g) ≡ station_at g (2 ^ made) =
-          cube-station wiring_cube n g (next_test wiring_cube n t g) refl ∙ ap (station_at g) (near-test e) in
-          let bytes = test-bytes wiring_cube n L t g c.size r.plain crew.company below live unfinished e x b hx hb in
-          heard-near _ x at (test-station wiring_cube n t g e r.plain.lines.0 below) (heard n t _ g _ x b (sym bytes ∙ one)) hx q)
+          let at : wired_station Cube n g (next_test Cube n t g) ≡ station_at g (2 ^ made) =
+          cube-station Cube n g (next_test Cube n t g) refl ∙ ap (station_at g) (near-test e) in
+          let bytes = test-bytes Cube n L t g c.size r.plain crew.company below live unfinished e x b hx hb in
+          heard-near _ x at (test-station Cube n t g e r.plain.lines.0 below) (heard n t _ g _ x b (sym bytes ∙ one)) hx q)
           (λ e. near.aware x hx q
-          (sym (finish-bytes wiring_cube n L t g c.size r.plain crew.company below live unfinished e x b hb) ∙ one))
+          (sym (finish-bytes Cube n L t g c.size r.plain crew.company below live unfinished e x b hb) ∙ one))

@@ -13,11 +13,12 @@ use lib.Bits.{xor_lt}
 use lib.Pow.{pow_pos, pow_mono}
 use Rattle.lists.proofs.BoolLaws.{by_bool}
 use Rattle.table.specs.Sizes.{is_size}
-use Rattle.table.specs.Wiring.{wiring_cube, end_distance}
+use Rattle.table.specs.Wiring.{end_distance}
 use Rattle.table.proofs.SizeLaws.{size-distances, distances-le}
 use Rattle.table.proofs.WiringLaws.{end-cube}
 use Rattle.table.specs.Table.{next_distance, finished, tests_made, suspects, row}
 use Rattle.table.proofs.CellLaws.{row-length}
+use Rattle.table.specs.declared.wiring.Wiring.TheVariants.{Cube}
 use Rattle.station.specs.Groups.{station_at}
 use Rattle.station.specs.Wired.{next_after}
 use Rattle.plant.specs.Turn.{next_test, makes_test}
@@ -36,13 +37,13 @@ pub record Cubic (n d : ℕ) : Type 0 where
   pub levels : 2 ≤ d
 
 -- its end distance
-pub end-power : (n d : ℕ) → Cubic n d → end_distance wiring_cube n ≡ 2 ^ d
+pub end-power : (n d : ℕ) → Cubic n d → end_distance Cube n ≡ 2 ^ d
 end-power n d c =
     let most = distances-le d n (omega (arith, c.power)) in
     end-cube n ∙ omega (arith, (size-distances n c.size).0, c.power, most)
 
 -- a row that suspects nobody suspects at most an absent board, which is beside nobody
-pub few-none : (n d : ℕ) → Cubic n d → (t : List ℕ) → Lines wiring_cube n t → (i : ℕ) → i < n → ((x : ℕ) → x < n → suspects n t i x ≡ 0)
+pub few-none : (n d : ℕ) → Cubic n d → (t : List ℕ) → Lines Cube n t → (i : ℕ) → i < n → ((x : ℕ) → x < n → suspects n t i x ≡ 0)
     → Few d (row n t i) i n
 few-none n d c t lines i hi none = record {
   long = row-length n t i lines.0 hi ∙ c.power;
@@ -58,7 +59,7 @@ beside-none n d c i hi e =
     omega (arith, e, c.power, xor_lt d i 1 (omega (arith, c.power)) (omega (arith, pow_mono {i = 1} {j = d} (omega (arith, c.levels)))))
 
 -- where all but b are live and no live board suspects a live one, rows suspect b at most
-pub few-but : (n d b : ℕ) (L : ℕ → Bool) → Cubic n d → ((x : ℕ) → x < n → x ≢ b → L x ≡ true) → (t : List ℕ) → Plain wiring_cube n L t
+pub few-but : (n d b : ℕ) (L : ℕ → Bool) → Cubic n d → ((x : ℕ) → x < n → x ≢ b → L x ≡ true) → (t : List ℕ) → Plain Cube n L t
     → (i : ℕ) → i < n → i ≢ b → Few d (row n t i) i b
 few-but n d b L c others t p i hi apart = record {
   long = row-length n t i p.lines.0 hi ∙ c.power;
@@ -111,31 +112,31 @@ paced-same n d b t t' i f m x p = record {
 
 -- the own turn of board i, which suspects board z at most
 module _ (n d : ℕ) (c : Cubic n d) (t : List ℕ) (i z : ℕ) (few : Few d (row n t i) i z) where
-  end : end_distance wiring_cube n ≡ 2 ^ d
+  end : end_distance Cube n ≡ 2 ^ d
   end = end-power n d c
 
   -- the next test of a board that has made τ tests
-  test-at : (τ : ℕ) → τ < d → station_at i 1 ≢ z → next_distance n t i ≡ pace τ → next_test wiring_cube n t i ≡ 2 ^ τ
-  test-at τ l far e = cube-next wiring_cube n t i refl ∙ rw (end, e) (next-level d (row n t i) i z few τ l far)
+  test-at : (τ : ℕ) → τ < d → station_at i 1 ≢ z → next_distance n t i ≡ pace τ → next_test Cube n t i ≡ 2 ^ τ
+  test-at τ l far e = cube-next Cube n t i refl ∙ rw (end, e) (next-level d (row n t i) i z few τ l far)
 
-  none-at : station_at i 1 ≢ z → next_distance n t i ≡ pace d → next_test wiring_cube n t i ≡ 2 ^ d
-  none-at far e = cube-next wiring_cube n t i refl ∙ rw (end, e) (next-none d (row n t i) i z few far)
+  none-at : station_at i 1 ≢ z → next_distance n t i ≡ pace d → next_test Cube n t i ≡ 2 ^ d
+  none-at far e = cube-next Cube n t i refl ∙ rw (end, e) (next-none d (row n t i) i z few far)
 
-  first-at : next_distance n t i ≡ 1 → next_test wiring_cube n t i ≡ 1
-  first-at e = cube-next wiring_cube n t i refl ∙ rw (end, e) (next-first d (row n t i) i z few (omega (arith, c.levels)))
+  first-at : next_distance n t i ≡ 1 → next_test Cube n t i ≡ 1
+  first-at e = cube-next Cube n t i refl ∙ rw (end, e) (next-first d (row n t i) i z few (omega (arith, c.levels)))
 
-  makes : next_test wiring_cube n t i < 2 ^ d → makes_test wiring_cube n t i ≡ true
+  makes : next_test Cube n t i < 2 ^ d → makes_test Cube n t i ≡ true
   unfolding makes_test
-  makes l = rw end (lt-ltb (next_test wiring_cube n t i) (2 ^ d) l)
+  makes l = rw end (lt-ltb (next_test Cube n t i) (2 ^ d) l)
 
-  makes-none : next_test wiring_cube n t i ≡ 2 ^ d → makes_test wiring_cube n t i ≡ false
+  makes-none : next_test Cube n t i ≡ 2 ^ d → makes_test Cube n t i ≡ false
   unfolding makes_test
   makes-none e = rw (end, e) (le-ltb (2 ^ d) (2 ^ d) (omega arith))
 
   module _ (unfinished : finished n t i ≡ 0) where
     -- a test of a board that is on pace
-    pub pace-test : station_at i 1 ≢ z → OnPace n d t i → makes_test wiring_cube n t i ≡ true
-        → (tests_made n t i < d) × (next_test wiring_cube n t i ≡ 2 ^ tests_made n t i)
+    pub pace-test : station_at i 1 ≢ z → OnPace n d t i → makes_test Cube n t i ≡ true
+        → (tests_made n t i < d) × (next_test Cube n t i ≡ 2 ^ tests_made n t i)
     pace-test far paced e =
         let g = paced.going unfinished in
         by_cases (dec_lt (tests_made n t i) d) (λ l. (l, test-at (tests_made n t i) l far g.1))
@@ -144,7 +145,7 @@ module _ (n d : ℕ) (c : Cubic n d) (t : List ℕ) (i z : ℕ) (few : Few d (ro
         absurd (true≢false (sym e ∙ makes-none (none-at far (rw last at g.1)))))
 
     -- where it makes none it has made all
-    pace-end : station_at i 1 ≢ z → OnPace n d t i → makes_test wiring_cube n t i ≡ false → tests_made n t i ≡ d
+    pace-end : station_at i 1 ≢ z → OnPace n d t i → makes_test Cube n t i ≡ false → tests_made n t i ≡ d
     pace-end far paced e =
         let g = paced.going unfinished in
         by_cases (dec_lt (tests_made n t i) d)
@@ -154,10 +155,10 @@ module _ (n d : ℕ) (c : Cubic n d) (t : List ℕ) (i z : ℕ) (few : Few d (ro
         (λ l. omega (arith, g.0))
 
     -- its first test
-    pub first-test : Begins n t i → tests_made n t i ≡ 0 → next_test wiring_cube n t i ≡ 1
+    pub first-test : Begins n t i → tests_made n t i ≡ 0 → next_test Cube n t i ≡ 1
     first-test b z = first-at (b.first unfinished z)
 
-    first-made : Begins n t i → makes_test wiring_cube n t i ≡ false → 1 ≤ tests_made n t i
+    first-made : Begins n t i → makes_test Cube n t i ≡ false → 1 ≤ tests_made n t i
     first-made b e =
         by_cases (ℕ_discrete (tests_made n t i) 0)
         (λ z.
@@ -165,19 +166,19 @@ module _ (n d : ℕ) (c : Cubic n d) (t : List ℕ) (i z : ℕ) (few : Few d (ro
         absurd (true≢false (sym (makes (omega (arith, next, pow_mono {i = 1} {j = d} (omega (arith, c.levels))))) ∙ e)))
         (λ z. omega arith)
 
-    module _ (t' : List ℕ) (o : ℕ) (heads : Heads wiring_cube n t t' i o (makes_test wiring_cube n t i)) where
+    module _ (t' : List ℕ) (o : ℕ) (heads : Heads Cube n t t' i o (makes_test Cube n t i)) where
       -- what its turn makes of the bytes of its pass
-      made : makes_test wiring_cube n t i ≡ true
-          → (tests_made n t' i ≡ suc (tests_made n t i)) × (finished n t' i ≡ 0) × (next_distance n t' i ≡ next_test wiring_cube n t i + 1)
+      made : makes_test Cube n t i ≡ true
+          → (tests_made n t' i ≡ suc (tests_made n t i)) × (finished n t' i ≡ 0) × (next_distance n t' i ≡ next_test Cube n t i + 1)
       unfolding next_after
       made e = (rw e at heads.tests ∙ add-one (tests_made n t i), rw e at heads.finish ∙ unfinished, rw e at heads.next)
 
-      none : makes_test wiring_cube n t i ≡ false → (tests_made n t' i ≡ tests_made n t i) × (finished n t' i ≡ 1)
+      none : makes_test Cube n t i ≡ false → (tests_made n t' i ≡ tests_made n t i) × (finished n t' i ≡ 1)
       none e = (omega (arith, rw e at heads.tests), rw e at heads.finish)
 
       pub pace-own : station_at i 1 ≢ z → OnPace n d t i → OnPace n d t' i
       pace-own far paced =
-          by_bool (makes_test wiring_cube n t i)
+          by_bool (makes_test Cube n t i)
           (λ e.
           let m = made e in
           let at = pace-test far paced e in
@@ -189,7 +190,7 @@ module _ (n d : ℕ) (c : Cubic n d) (t : List ℕ) (i z : ℕ) (few : Few d (ro
 
       pub begins-own : Begins n t i → Begins n t' i
       begins-own b =
-          by_bool (makes_test wiring_cube n t i)
+          by_bool (makes_test Cube n t i)
           (λ e. let m = made e in record { first = λ f z. absurd (omega (arith, m.0)); some = λ f. absurd (omega (arith, m.1)) })
           (λ e. let m = none e in record { first = λ f z. absurd (omega (arith, m.1)); some = λ f. omega (arith, m.0, first-made b e) })
 

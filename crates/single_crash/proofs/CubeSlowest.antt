@@ -12,12 +12,12 @@ use lib.ListN.{get_or}
 use Rattle.lists.specs.Search.{every}
 use Rattle.lists.proofs.SearchLaws.{every-at, list_of-at}
 use Rattle.lists.specs.Sums.{bit}
-use Rattle.table.specs.Wiring.{wiring_cube}
 use Rattle.table.specs.Table.{suspects, live, row}
 use Rattle.table.specs.Rules.{not_live}
 use Rattle.table.specs.Fresh.{fresh_table}
 use Rattle.table.specs.Properties.{at_start, exact_row}
 use Rattle.table.proofs.CellLaws.{row_at}
+use Rattle.table.specs.declared.wiring.Wiring.TheVariants.{Cube}
 use Rattle.plant.specs.Entry.{state_of}
 use Rattle.plant.proofs.WholeRun.{whole_run}
 use Rattle.granter.specs.Grant.{waits, first_from, following, granted, grant_check}
@@ -29,7 +29,7 @@ abbrev plant : Stand
 plant = stand_at (state_of (fresh_table 8) 0 0) 4
 
 abbrev end : Stand
-end = behind_crash wiring_cube 8 plant 17 1 33
+end = behind_crash Cube 8 plant 17 1 33
 
 -- who unfolds this name computes a drive
 unfoldable whole_drive : Unit {0}

@@ -13,9 +13,9 @@ use lib.Dec.{eqb}
 use Rattle.lists.specs.Sums.{sum_below, bit}
 use Rattle.lists.proofs.BoolLaws.{by_bool}
 use Rattle.lists.proofs.SumLaws.{sum-add, sum-single}
-use Rattle.table.specs.Wiring.{wiring_cube}
 use Rattle.table.specs.Table.{finished, tests_made, suspects}
 use Rattle.table.specs.Rules.{round_over}
+use Rattle.table.specs.declared.wiring.Wiring.TheVariants.{Cube}
 use Rattle.plant.specs.Turn.{kind_turn, turn}
 use Rattle.plant.proofs.RoundLaws.{Reset}
 use Rattle.slots.proofs.Counts.{sum-le}
@@ -81,7 +81,7 @@ exact-of n b t all i j h g l f = rw (but-is b j f) (all i h (but-apart b i l))
 -- in the round of the crash: who is at a multiple of 2^s learns, each by the test at the level of its distance
 pub record Spread (n d b s : ℕ) (p : Stand) : Type 0 where
   pub begins : ℕ
-  pub running : Running wiring_cube n (all_but b) begins p
+  pub running : Running Cube n (all_but b) begins p
   pub pace : (i : ℕ) → i < n → i ≢ b → OnPace n d p.state.table i
   pub near : NearUnaware n b 1 p.state.table
   pub learned : Learned n b (Multiple b s) (by_distance b) p.state.table
@@ -89,14 +89,14 @@ pub record Spread (n d b s : ℕ) (p : Stand) : Type 0 where
 -- in the next one: all learn, each by the test at the level of the last s digits of its distance
 pub record Gather (n d b s : ℕ) (p : Stand) : Type 0 where
   pub begins : ℕ
-  pub running : Running wiring_cube n (all_but b) begins p
+  pub running : Running Cube n (all_but b) begins p
   pub paced : (i : ℕ) → i < n → i ≢ b → Paced n d b p.state.table i
   pub learned : Learned n b (λ x. Unit {0}) (by_digits b s) p.state.table
 
 -- at last all know
 pub record AllAware (n b : ℕ) (p : Stand) : Type 0 where
   pub begins : ℕ
-  pub running : Running wiring_cube n (all_but b) begins p
+  pub running : Running Cube n (all_but b) begins p
   pub exact : Exact n (all_but b) p.state.table
 
 -- the turns left in the round of the crash, and s more of each board
@@ -111,15 +111,15 @@ module _ (n d b : ℕ) (c : Cubic n d) (hb : b < n) (s : ℕ) (le : s ≤ d) (p 
   g = granted_at n p
 
   abbrev t' : List ℕ
-  t' = turn wiring_cube n t kind_turn g
+  t' = turn Cube n t kind_turn g
 
   abbrev p' : Stand
-  p' = grant_turn wiring_cube n p
+  p' = grant_turn Cube n p
 
   abbrev others : OthersLive n b (all_but b)
   others = but-others n b
 
-  abbrev crew : Crew wiring_cube n (all_but b)
+  abbrev crew : Crew Cube n (all_but b)
   crew = cube-crew n d b (all_but b) c others
 
   module _ (r : Spread n d b s p) where
@@ -131,25 +131,25 @@ module _ (n d b : ℕ) (c : Cubic n d) (hb : b < n) (s : ℕ) (le : s ≤ d) (p 
 
     spread-learned' : Learned n b (Multiple b s) (by_distance b) t'
     spread-learned' =
-        let below = (chosen wiring_cube n (all_but b) crew r.begins p r.running).0 in
+        let below = (chosen Cube n (all_but b) crew r.begins p r.running).0 in
         learned-next n d b (all_but b) c others hb (Multiple b s) (by_distance b) (way-distance n d b c hb s) t spread-paced r.learned r.running.plain
         (but-dead b) g below (granted-other n d b (all_but b) c others r.begins p r.running (but-dead b)) t' _
-        (heads wiring_cube n (all_but b) crew r.begins p r.running) (kept wiring_cube n (all_but b) crew r.begins p r.running)
-        (going wiring_cube n (all_but b) crew r.begins p r.running) (fewest n d b (all_but b) c others r.begins p r.running)
+        (heads Cube n (all_but b) crew r.begins p r.running) (kept Cube n (all_but b) crew r.begins p r.running)
+        (going Cube n (all_but b) crew r.begins p r.running) (fewest n d b (all_but b) c others r.begins p r.running)
 
     -- one turn less is left
     pub spread-less : suc (left_with n d b s t') ≡ left_with n d b s t
     spread-less =
-        let m = moved wiring_cube n (all_but b) crew r.begins p r.running in
-        let below = (chosen wiring_cube n (all_but b) crew r.begins p r.running).0 in
-        let live = is_live wiring_cube n (all_but b) crew r.begins p r.running in
-        let zero = going wiring_cube n (all_but b) crew r.begins p r.running in
+        let m = moved Cube n (all_but b) crew r.begins p r.running in
+        let below = (chosen Cube n (all_but b) crew r.begins p r.running).0 in
+        let live = is_live Cube n (all_but b) crew r.begins p r.running in
+        let zero = going Cube n (all_but b) crew r.begins p r.running in
         let most = (r.pace g below (but-apart b g live)).going zero in
         left-turn n (all_but b) (λ i. d + s) (turns_made n t) (turns_made n t') g below live (omega (arith, most.0, zero)) m.own m.others
 
     pub spread-on : round_over n t' ≡ false → Spread n d b s p'
     spread-on on =
-        let w = goes_on wiring_cube n (all_but b) crew r.begins p r.running on in
+        let w = goes_on Cube n (all_but b) crew r.begins p r.running on in
         record {
           begins = _;
           running = w.running;
@@ -160,13 +160,13 @@ module _ (n d b : ℕ) (c : Cubic n d) (hb : b < n) (s : ℕ) (le : s ≤ d) (p 
 
     -- where the round closes, all that were to learn know
     module _ (over : round_over n t' ≡ true) where
-      abbrev closed : Closed wiring_cube n (all_but b) t' g p p'
-      closed = closes wiring_cube n (all_but b) crew r.begins p r.running over
+      abbrev closed : Closed Cube n (all_but b) t' g p p'
+      closed = closes Cube n (all_but b) crew r.begins p r.running over
 
       ended : (x : ℕ) → x < n → x ≢ b → finished n t' x ≡ 1
       ended x h q =
-          let plain = (kept wiring_cube n (all_but b) crew r.begins p r.running).plain in
-          all-finished wiring_cube n (all_but b) t' plain over x h (others x h q)
+          let plain = (kept Cube n (all_but b) crew r.begins p r.running).plain in
+          all-finished Cube n (all_but b) t' plain over x h (others x h q)
 
       pub spread-over : Gather n d b s p'
       spread-over = record {
@@ -202,11 +202,11 @@ module _ (n d b : ℕ) (c : Cubic n d) (hb : b < n) (s : ℕ) (le : s ≤ d) (p 
 
     gather-learned' : Learned n b (λ x. Unit {0}) (by_digits b s) t'
     gather-learned' =
-        let below = (chosen wiring_cube n (all_but b) crew r.begins p r.running).0 in
+        let below = (chosen Cube n (all_but b) crew r.begins p r.running).0 in
         learned-next n d b (all_but b) c others hb (λ x. Unit {0}) (by_digits b s) (way-digits n d b c hb s le) t r.paced r.learned r.running.plain
         (but-dead b) g below (granted-other n d b (all_but b) c others r.begins p r.running (but-dead b)) t' _
-        (heads wiring_cube n (all_but b) crew r.begins p r.running) (kept wiring_cube n (all_but b) crew r.begins p r.running)
-        (going wiring_cube n (all_but b) crew r.begins p r.running) (fewest n d b (all_but b) c others r.begins p r.running)
+        (heads Cube n (all_but b) crew r.begins p r.running) (kept Cube n (all_but b) crew r.begins p r.running)
+        (going Cube n (all_but b) crew r.begins p r.running) (fewest n d b (all_but b) c others r.begins p r.running)
 
     -- who has finished knows
     gather-ended : (u : List ℕ) → ((i : ℕ) → i < n → i ≢ b → Paced n d b u i) → Learned n b (λ x. Unit {0}) (by_digits b s) u
@@ -229,29 +229,29 @@ module _ (n d b : ℕ) (c : Cubic n d) (hb : b < n) (s : ℕ) (le : s ≤ d) (p 
     -- else its turn is one of those left
     pub gather-less : turns_made n t g < s → suc (left_to n s t') ≤ left_to n s t
     gather-less few =
-        let m = moved wiring_cube n (all_but b) crew r.begins p r.running in
-        let at = chosen wiring_cube n (all_but b) crew r.begins p r.running in
+        let m = moved Cube n (all_but b) crew r.begins p r.running in
+        let at = chosen Cube n (all_but b) crew r.begins p r.running in
         to-turn n s (waits n t) (waits n t') (turns_made n t) (turns_made n t') g m at.0 at.1 few
 
     pub gather-on : round_over n t' ≡ false → Gather n d b s p'
     gather-on on =
-        let w = goes_on wiring_cube n (all_but b) crew r.begins p r.running on in
+        let w = goes_on Cube n (all_but b) crew r.begins p r.running on in
         record { begins = _; running = w.running; paced = rw w.table gather-paced'; learned = rw w.table gather-learned' }
 
     pub gather-over : round_over n t' ≡ true → AllAware n b p'
     gather-over over =
-        let closed = closes wiring_cube n (all_but b) crew r.begins p r.running over in
-        let plain = (kept wiring_cube n (all_but b) crew r.begins p r.running).plain in
+        let closed = closes Cube n (all_but b) crew r.begins p r.running over in
+        let plain = (kept Cube n (all_but b) crew r.begins p r.running).plain in
         let now : (x : ℕ) → x < n → x ≢ b → suspects n t' x b ≡ 1 =
-        λ x h q. gather-ended t' gather-paced' gather-learned' x h q (all-finished wiring_cube n (all_but b) t' plain over x h (others x h q)) in
+        λ x h q. gather-ended t' gather-paced' gather-learned' x h q (all-finished Cube n (all_but b) t' plain over x h (others x h q)) in
         record { begins = _; running = closed.running; exact = exact-of n b _ (λ x h q. closed.grown x b h hb (now x h q)) }
 
     pub gather-aware : s ≤ turns_made n t g → AllAware n b p
     gather-aware far = record { begins = _; running = r.running; exact = gathered far }
 
 -- what all know stays known
-pub aware-on : (n d b : ℕ) → Cubic n d → (p : Stand) → AllAware n b p → AllAware n b (grant_turn wiring_cube n p)
+pub aware-on : (n d b : ℕ) → Cubic n d → (p : Stand) → AllAware n b p → AllAware n b (grant_turn Cube n p)
 aware-on n d b c p r =
-    let crew : Crew wiring_cube n (all_but b) = cube-crew n d b (all_but b) c (but-others n b) in
-    let on = runs_on wiring_cube n (all_but b) crew r.begins p r.running in
-    record { begins = on.0; running = on.1; exact = stays_known wiring_cube n (all_but b) crew r.begins p r.running r.exact }
+    let crew : Crew Cube n (all_but b) = cube-crew n d b (all_but b) c (but-others n b) in
+    let on = runs_on Cube n (all_but b) crew r.begins p r.running in
+    record { begins = on.0; running = on.1; exact = stays_known Cube n (all_but b) crew r.begins p r.running r.exact }

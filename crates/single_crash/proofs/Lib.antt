@@ -28,3 +28,4 @@ pub mod CubeWhole
 pub mod CubeKnown
 pub mod CubeOrder
 pub mod CubeSlowest
+pub mod BoundLaws

@@ -9,11 +9,11 @@ use Prim.Native.Nat.{ℕ, suc, ◌+◌, ◌-◌, ◌%◌, ◌≤◌, ◌<◌}
 use native.Mathlib.Decide.{dec_lt, ℕ_discrete}
 use native.Mathlib.Omega.{arith}
 use Rattle.table.specs.Sizes.{is_size}
-use Rattle.table.specs.Wiring.{wiring_ring}
 use Rattle.table.specs.Table.{finished_column, tests_column, finished, tests_made, suspects}
 use Rattle.table.specs.Table.{next_distance}
 use Rattle.table.specs.Rules.{round_over}
 use Rattle.table.proofs.SizeLaws.{size-bounds}
+use Rattle.table.specs.declared.wiring.Wiring.TheVariants.{Ring}
 use Rattle.plant.specs.Turn.{kind_turn, turn, crash}
 use Rattle.granter.specs.Grant.{waits, following}
 use Rattle.granter.specs.Fairness.{stations_before}
@@ -34,9 +34,10 @@ use Rattle.single_crash.proofs.OnRing.{meets-at, passes-on, Before}
 use Rattle.single_crash.proofs.RingStages.{Waiting, Finding, Spread, crew, two_before, a-lives, lives, two-at, one-at}
 use Rattle.single_crash.proofs.RingStages.{crash-waiting, finding-fresh, waiting-on, finding-on, finding-closes, spread-on, spread-open}
 use Rattle.single_crash.proofs.RingStages.{spread-exact}
+use Rattle.table.specs.declared.wiring.Wiring.{Wiring}
 
-abbrev w : ℕ
-w = wiring_ring
+abbrev w : Wiring
+w = Ring
 
 module _ (n b : ℕ) (size : is_size n ≡ true) (four : 4 ≤ n) (hb : b < n) where
   abbrev L : ℕ → Bool

@@ -9,12 +9,12 @@ use native.Mathlib.Decide.{dec_lt}
 use native.Mathlib.Omega.{arith}
 use Rattle.lists.proofs.BoolLaws.{by_bool}
 use Rattle.table.specs.Sizes.{is_size}
-use Rattle.table.specs.Wiring.{wiring_ring}
 use Rattle.table.specs.Table.{tests_made}
 use Rattle.table.specs.Rules.{round_over}
 use Rattle.table.proofs.SizeLaws.{size-bounds}
 use Rattle.table.proofs.Accepting.{Accepted}
 use Rattle.table.proofs.CellLaws.{accepted-line}
+use Rattle.table.specs.declared.wiring.Wiring.TheVariants.{Ring}
 use Rattle.plant.specs.Turn.{kind_turn, turn, crash}
 use Rattle.plant.proofs.RoundLaws.{Reset}
 use Rattle.granter.specs.Drive.{Stand, granted_at, grant_turn, after_grants}
@@ -35,9 +35,10 @@ use Rattle.single_crash.proofs.RingStages.{waiting-on}
 use Rattle.single_crash.proofs.RingFirst.{WaitingFirst, FindingFirst, SpreadFirst, d-lives, waiting-first-on, waiting-first-closes}
 use Rattle.single_crash.proofs.RingFirst.{finding-first-on, finding-first-closes, spread-first-on, spread-first-known, crash-first}
 use Rattle.single_crash.proofs.RingStages.{finding-on, finding-closes, spread-on, spread-open, spread-known, crash-finding, crash-waiting}
+use Rattle.table.specs.declared.wiring.Wiring.{Wiring}
 
-abbrev w : ℕ
-w = wiring_ring
+abbrev w : Wiring
+w = Ring
 
 module _ (n b : ℕ) (size : is_size n ≡ true) (four : 4 ≤ n) (hb : b < n) where
   abbrev L : ℕ → Bool

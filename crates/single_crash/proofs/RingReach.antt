@@ -16,12 +16,12 @@ use Rattle.lists.specs.Search.{list_of}
 use Rattle.lists.proofs.SearchLaws.{list_of-at}
 use Rattle.lists.proofs.SumLaws.{sum_by, sum-add, sum-const}
 use Rattle.table.specs.Sizes.{is_size}
-use Rattle.table.specs.Wiring.{wiring_ring}
 use Rattle.table.specs.Table.{head, stride, cell, finished_column, next_distance, finished, tests_made, suspects, live}
 use Rattle.table.specs.Rules.{not_live, round_over}
 use Rattle.table.specs.Properties.{exact_row}
 use Rattle.table.specs.Fresh.{fresh_table}
 use Rattle.table.proofs.CellLaws.{row_at}
+use Rattle.table.specs.declared.wiring.Wiring.TheVariants.{Ring}
 use Rattle.plant.specs.Entry.{state_of}
 use Rattle.station.proofs.WiredLaws.{place_before, place_behind}
 use Rattle.plant.specs.Turn.{kind_turn, turn, crash}
@@ -44,9 +44,10 @@ use Rattle.single_crash.proofs.RingStages.{crew, at_place, sum-at, crash-waiting
 use Rattle.single_crash.proofs.RingKnown.{sound-before}
 use Rattle.single_crash.proofs.RingSlow.{WaitingSlow, Slow, slow_waiting, slow-unaware, slow-rounds, slow-after}
 use Rattle.single_crash.proofs.FreshSound.{fresh-is-sound}
+use Rattle.table.specs.declared.wiring.Wiring.{Wiring}
 
-abbrev w : ℕ
-w = wiring_ring
+abbrev w : Wiring
+w = Ring
 
 -- a plant that has just been started: a fresh table, and nobody was granted yet
 abbrev started : ℕ → Stand
@@ -100,8 +101,8 @@ module _ (n : ℕ) (size : is_size n ≡ true) (four : 4 ≤ n) where
     at-x : g ≡ x
     at-x =
         let r = s.before.run in
-        let chain = next w n everyone (everyone-crew w n refl size) 0 p r in
-        let g<n = (chosen w n everyone (everyone-crew w n refl size) 0 p r).0 in
+        let chain = next w n everyone (everyone-crew w n size) 0 p r in
+        let g<n = (chosen w n everyone (everyone-crew w n size) 0 p r).0 in
         let zero : turns_made n t x ≡ 0 = s.turns x (omega arith) ∙ none in
         let few = sweep-fewest n 0 (waits n t) (turns_made n t) p.last g r.fits r.sweep chain x (omega arith) x-waits in
         let same : turns_made n t g ≡ 0 = omega arith in
@@ -111,7 +112,7 @@ module _ (n : ℕ) (size : is_size n ≡ true) (four : 4 ≤ n) where
 
     pub one-open : round_over n t' ≡ false
     one-open =
-        let crew = everyone-crew w n refl size in
+        let crew = everyone-crew w n size in
         let r = s.before.run in
         by_bool (round_over n t')
         (λ over.
@@ -120,7 +121,7 @@ module _ (n : ℕ) (size : is_size n ≡ true) (four : 4 ≤ n) where
 
     pub first-on : (made' : ℕ → ℕ) → made' x ≡ 1 → ((i : ℕ) → i ≢ x → made' i ≡ made i) → First (grant_turn w n p) made'
     first-on made' own same =
-        let crew = everyone-crew w n refl size in
+        let crew = everyone-crew w n size in
         let r = s.before.run in
         let m = moved w n everyone crew 0 p r in
         let o = goes_on w n everyone crew 0 p r one-open in
@@ -133,7 +134,7 @@ module _ (n : ℕ) (size : is_size n ≡ true) (four : 4 ≤ n) where
 
     pub first-left : suc (left_of n everyone one (grant_turn w n p).state.table) ≡ left_of n everyone one t
     first-left =
-        let crew = everyone-crew w n refl size in
+        let crew = everyone-crew w n size in
         let r = s.before.run in
         rw (goes_on w n everyone crew 0 p r one-open).table (one-less n everyone crew 0 p r one s.before.passes)
 
@@ -144,7 +145,7 @@ module _ (n : ℕ) (size : is_size n ≡ true) (four : 4 ≤ n) where
   first-start : First (started n) none-yet
   unfolding none-yet following
   first-start =
-      let sound = fresh-is-sound w n 0 0 no_grant refl size (none-fits n) in
+      let sound = fresh-is-sound w n 0 0 no_grant size (none-fits n) in
       record { before = sound-before n (started n) sound; turns = none-made w n (started n) sound.granted sound.start }
 
   left-start : left_of n everyone one (started n).state.table ≡ n * 2
@@ -298,7 +299,7 @@ module _ (n : ℕ) (size : is_size n ≡ true) (four : 4 ≤ n) where
       omega (arith, unaware, row_at n end 0 2 (hb n size four), row, one)
 
   sound : Sound w n (started n)
-  sound = fresh-is-sound w n 0 0 no_grant refl size (none-fits n)
+  sound = fresh-is-sound w n 0 0 no_grant size (none-fits n)
 
 pub ring-no-fewer-grants : RingNoFewerGrants
 ring-no-fewer-grants n size four claim = unknown n size four (claim (started n) 2 2 (5 * n - 9) (sound n size four) (omega arith) (omega arith))

@@ -10,10 +10,10 @@ use native.Mathlib.Decide.{dec_lt, ℕ_discrete}
 use native.Mathlib.Omega.{arith}
 use Rattle.lists.proofs.BoolLaws.{by_bool}
 use Rattle.table.specs.Sizes.{is_size}
-use Rattle.table.specs.Wiring.{wiring_ring}
 use Rattle.table.specs.Table.{head, tests_column, next_distance, finished, tests_made, suspects}
 use Rattle.table.specs.Rules.{round_over}
 use Rattle.table.proofs.SizeLaws.{size-bounds}
+use Rattle.table.specs.declared.wiring.Wiring.TheVariants.{Ring}
 use Rattle.plant.specs.Turn.{kind_turn, turn}
 use Rattle.plant.specs.Round.{reset_lines}
 use Rattle.plant.proofs.RoundLaws.{reset-other}
@@ -34,9 +34,10 @@ use Rattle.single_crash.proofs.RingStages.{two-at, one-at, left-fresh, finding-f
 use Rattle.single_crash.proofs.RingStages.{e-place, y-place, y-lives}
 use Rattle.single_crash.proofs.RingLast.{last-closes, last-open}
 use Rattle.single_crash.proofs.Unaware.{rows-stay, unaware-met, unaware-other}
+use Rattle.table.specs.declared.wiring.Wiring.{Wiring}
 
-abbrev w : ℕ
-w = wiring_ring
+abbrev w : Wiring
+w = Ring
 
 module _ (n b : ℕ) (size : is_size n ≡ true) (four : 4 ≤ n) (hb : b < n) where
   abbrev L : ℕ → Bool

@@ -15,10 +15,10 @@ use Rattle.lists.proofs.BoolLaws.{by_bool}
 use Rattle.lists.proofs.SumLaws.{sum_by, sum-add, sum-const, sum-single}
 use Rattle.slots.proofs.Counts.{sum-le}
 use Rattle.table.specs.Sizes.{is_size}
-use Rattle.table.specs.Wiring.{wiring_ring}
 use Rattle.table.specs.Table.{next_column, finished_column, tests_column, next_distance, finished, tests_made, suspects}
 use Rattle.table.specs.Rules.{round_over}
 use Rattle.table.proofs.SizeLaws.{size-bounds}
+use Rattle.table.specs.declared.wiring.Wiring.TheVariants.{Ring}
 use Rattle.plant.specs.Turn.{kind_turn, turn, crash}
 use Rattle.plant.proofs.RoundLaws.{Reset}
 use Rattle.granter.specs.Grant.{waits, following}
@@ -37,9 +37,10 @@ use Rattle.single_crash.proofs.Around.{before-below, before-next, other-next, be
 use Rattle.single_crash.proofs.Around.{both-apart}
 use Rattle.single_crash.proofs.Around as around
 use Rattle.single_crash.proofs.OnRing.{PassesOf, left_of, passes-fresh, counts-at, finds-at, meets-at, passes-on, had-left, one, reach-one, Before}
+use Rattle.table.specs.declared.wiring.Wiring.{Wiring}
 
-abbrev w : ℕ
-w = wiring_ring
+abbrev w : Wiring
+w = Ring
 
 -- a number at place p only
 abbrev pub at_place : ℕ → ℕ → ℕ → ℕ
@@ -81,7 +82,7 @@ module _ (n b : ℕ) (size : is_size n ≡ true) (four : 4 ≤ n) (hb : b < n) w
   b-dead = rw (eq-eqb b b refl) refl
 
   pub crew : Crew w n L
-  crew = others-crew w n b refl size (omega arith)
+  crew = others-crew w n b size (omega arith)
 
   -- how many tests each makes in a round that begins now: the one before b tests b and the one behind it
   abbrev pub two_before : ℕ → ℕ

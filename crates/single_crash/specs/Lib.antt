@@ -1,4 +1,5 @@
 -- What the contracts of `single_crash` cite.
+pub mod Bounds
 pub mod Cube
 pub mod Sweeps
 pub mod Setting
