@@ -69,12 +69,6 @@ tests_head columns =
 abbrev pub list_width : ℕ → List ℕ → ℕ
 list_width n row = max (widest n row) (length (codes "whom it tests, in order"))
 
--- after how many rounds, that of its death among them, and after how many grants all live boards know one more dead board, at most
-unfoldable pub known_text : ℕ → List ℕ → List ℕ
-known_text n row =
-    codes "One more dead board is known everywhere after at most " ++ decimal (suc (worst_latency (dimension n))) ++ codes " rounds, "
-    ++ decimal (most_until_known n row) ++ codes " grants"
-
 -- under a bus master: after how many rounds and grants one dead board is known everywhere, where something is claimed
 abbrev pub bounds_line : Option OneDead → List ℕ
 bounds_line None = []
@@ -85,10 +79,16 @@ bounds_line (Some known) =
 unfoldable pub master_text : ℕ → List ℕ → List ℕ
 master_text n row = if count_by (λ dead. dead == 0) row == length row then bounds_line (one_dead_on Cube n) else []
 
+-- after how many rounds, that of its death among them, and after how many grants all live boards know one more dead board, at most; and under a
+-- bus master
+unfoldable pub known_text : ℕ → List ℕ → List ℕ
+known_text n row =
+    codes "One more dead board is known everywhere after at most " ++ decimal (suc (worst_latency (dimension n))) ++ codes " rounds, "
+    ++ decimal (most_until_known n row) ++ codes " grants\n" ++ master_text n row
+
 -- the sheet of a plant of n boards, by their row
 abbrev pub sheet_text : ℕ → List ℕ → List ℕ
 sheet_text n row =
-    decimal n ++ codes " boards, dead:" ++ dead_text row ++ codes "\n" ++ known_text n row ++ codes "\n" ++ master_text n row
-    ++ codes "\n" ++ tests_head (list_width n row)
+    decimal n ++ codes " boards, dead:" ++ dead_text row ++ codes "\n" ++ known_text n row ++ codes "\n" ++ tests_head (list_width n row)
     ++ live_lines (tests_line n row (list_width n row)) row n
     ++ codes "\nboard  whom it does not test (who stands ahead)\n" ++ live_lines (untested_line n row) row n

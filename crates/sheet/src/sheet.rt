@@ -38,8 +38,6 @@ impl fmt::Display for Sheet {
             Dead(plant),
             Known(plant)
         )?;
-        write_under_master(f, plant)?;
-        f.write_str("\n")?;
         write_tests_head(f, columns)?;
         write_all_tests(f, plant, columns)?;
         f.write_str("\nboard  whom it does not test (who stands ahead)\n")?;
@@ -66,7 +64,7 @@ impl<'a> fmt::Display for Dead<'a> {
     }
 }
 
-// After how many rounds and grants one more dead board of a plant is known everywhere.
+// After how many rounds and grants one more dead board of a plant is known everywhere; and where nobody is dead, under a bus master.
 #[derive(Clone, Copy)]
 struct Known<'a>(&'a Plant);
 
@@ -79,10 +77,11 @@ impl<'a> fmt::Display for Known<'a> {
     fn fmt<W: fmt::Write>(&self, f: &mut fmt::Formatter<W>) -> fmt::Result {
         let rounds = 1 + figures::worst_rounds(self.0.size);
         let grants = self.0.most_until_known();
-        write!(
+        writeln!(
             f,
             "One more dead board is known everywhere after at most {rounds} rounds, {grants} grants"
-        )
+        )?;
+        write_under_master(f, self.0)
     }
 }
 

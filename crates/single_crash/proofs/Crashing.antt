@@ -14,7 +14,6 @@ use lib.Seq.{ext_get_or}
 use Rattle.lists.specs.Sums.{bit}
 use Rattle.lists.proofs.BoolLaws.{by_bool}
 use Rattle.lists.proofs.SearchLaws.{both, list_of-length, list_of-at}
-use Rattle.std.specs.Prelude.{Ok}
 use Rattle.table.specs.Sizes.{is_size}
 use Rattle.table.specs.Table.{head, stride, cell, status_column, finished_column, tests_column, finished, suspects, live, row}
 use Rattle.table.specs.Table.{status_crashed}
@@ -30,8 +29,8 @@ use Rattle.plant.proofs.RoundLaws.{Reset, reset-cells}
 use Rattle.plant.proofs.StepLines.{leave-lines}
 use Rattle.granter.specs.Grant.{waits, following}
 use Rattle.granter.specs.Drive.{Stand, stand_at}
-use Rattle.granter.proofs.GrantLaws.{Grantable, grantable}
-use Rattle.detection.proofs.TurnEffect.{Plain, Company, Exact}
+use Rattle.granter.proofs.GrantLaws.{grantable}
+use Rattle.detection.proofs.TurnEffect.{Plain, Exact}
 use Rattle.detection.proofs.RoundKnowledge.{reset-rows}
 use Rattle.detection.proofs.DetectionClaim.{first_round}
 use Rattle.single_crash.specs.Sweeps.{turns_made}

@@ -1,29 +1,16 @@
 -- The cube: a computed plant of 8 boards in which one takes so long to learn of the crash. In a fresh plant with last granted number 4 board 1
 -- crashes behind 17 grants, and 33 grants later board 4 does not suspect it.
 -- Assumes nothing.
-use mathlib.Core.Path.{◌≡◌, refl, sym, ap, ◌∙◌}
-use mathlib.Core.Bool.{true}
-use mathlib.Core.List.{List}
-use Prim.Native.Nat.{ℕ, ◌<◌}
-use native.Mathlib.Omega.{arith}
-use borrow.Author.Tests.{eqb-true}
-use lib.Dec.{eqb}
-use lib.ListN.{get_or}
-use Rattle.lists.specs.Search.{every}
-use Rattle.lists.proofs.SearchLaws.{every-at, list_of-at}
-use Rattle.lists.specs.Sums.{bit}
-use Rattle.table.specs.Table.{suspects, live, row}
-use Rattle.table.specs.Rules.{not_live}
+use mathlib.Core.Path.{◌≡◌, refl}
+use Rattle.table.specs.Table.{suspects}
 use Rattle.table.specs.Fresh.{fresh_table}
-use Rattle.table.specs.Properties.{at_start, exact_row}
-use Rattle.table.proofs.CellLaws.{row_at}
+use Rattle.table.specs.Properties.{at_start}
 use Rattle.table.specs.declared.wiring.Wiring.TheVariants.{Cube}
 use Rattle.plant.specs.Entry.{state_of}
 use Rattle.plant.proofs.WholeRun.{whole_run}
 use Rattle.granter.specs.Grant.{waits, first_from, following, granted, grant_check}
 use Rattle.granter.specs.Drive.{Stand, stand_at, grant_turn, after_grants}
-use Rattle.single_crash.specs.Setting.{Sound, crash_at, behind_crash, KnownDead}
-use Rattle.single_crash.specs.Cube.{CubeNoFewer}
+use Rattle.single_crash.specs.Setting.{crash_at, behind_crash}
 
 abbrev plant : Stand
 plant = stand_at (state_of (fresh_table 8) 0 0) 4

@@ -1,27 +1,23 @@
 -- Drives one behind the other are grants, and each that answers 0 closes a round.
 -- Assumes nothing.
 use mathlib.Core.Path.{◌≡◌, refl, sym, ap, ◌∙◌}
-use mathlib.Core.Logic.{◌≢◌, by_cases}
-use mathlib.Core.Bool.{Bool, true, false, not, cond, ◌||◌, true≢false}
-use mathlib.Core.List.{List}
+use mathlib.Core.Logic.{by_cases}
+use mathlib.Core.Bool.{true, true≢false}
 use Prim.Native.Nat.{ℕ, zero, suc, ◌+◌, ◌≤◌, ◌<◌}
 use native.Mathlib.Decide.{ℕ_discrete}
 use native.Mathlib.Omega.{arith}
-use borrow.Author.Tests.{eqb-true, eqb-false, eq-eqb, ne_eqb}
+use borrow.Author.Tests.{eq-eqb}
 use lib.Dec.{eqb}
 use Rattle.lists.proofs.BoolLaws.{by_bool, choice}
 use Rattle.table.specs.Rules.{some_live, round_over}
 use Rattle.table.proofs.Accepting.{Accepted}
-use Rattle.table.proofs.CellLaws.{accepted-line}
 use Rattle.table.specs.declared.wiring.Wiring.{Wiring}
 use Rattle.plant.specs.Turn.{kind_turn, kind_crash}
 use Rattle.plant.specs.Entry.{State, entry_of, acted, after}
 use Rattle.granter.specs.Grant.{grant_refusal, following}
 use Rattle.granter.specs.Drive.{Stand, stand_at, granted_at, grant_turn, after_grants, ended, ended_after, grants_made, outcome_after, drive}
-use Rattle.granter.proofs.GrantLaws.{Grantable, grantable}
-use Rattle.detection.proofs.TurnEffect.{Plain}
-use Rattle.detection.proofs.DetectionClaim.{first_round}
-use Rattle.single_crash.specs.Setting.{Sound, crash_at, behind_crash, RoundsSince}
+use Rattle.granter.proofs.GrantLaws.{grantable}
+use Rattle.single_crash.specs.Setting.{Sound, crash_at, RoundsSince}
 use Rattle.single_crash.specs.Drives.{after_drives, next_drive, grants_of_drives, DrivesAreGrants, RoundsByDrives}
 use Rattle.single_crash.proofs.Running.{Crew, Running, some-live, runs-after}
 use Rattle.single_crash.proofs.Crashing.{everyone, all_but, everyone-crew, others-crew, sound-run, crash-runs}

@@ -12,21 +12,17 @@ use Rattle.table.specs.Sizes.{is_size}
 use Rattle.table.specs.Table.{tests_made}
 use Rattle.table.specs.Rules.{round_over}
 use Rattle.table.proofs.SizeLaws.{size-bounds}
-use Rattle.table.proofs.Accepting.{Accepted}
-use Rattle.table.proofs.CellLaws.{accepted-line}
 use Rattle.table.specs.declared.wiring.Wiring.TheVariants.{Ring}
 use Rattle.plant.specs.Turn.{kind_turn, turn, crash}
-use Rattle.plant.proofs.RoundLaws.{Reset}
 use Rattle.granter.specs.Drive.{Stand, granted_at, grant_turn, after_grants}
 use Rattle.granter.specs.Grant.{following}
-use Rattle.granter.proofs.GrantLaws.{Grantable, grantable}
+use Rattle.granter.proofs.GrantLaws.{grantable}
 use Rattle.detection.proofs.TurnEffect.{Plain, Exact}
-use Rattle.detection.proofs.DetectionClaim.{first_round}
 use Rattle.single_crash.specs.Sweeps.{turns_made}
 use Rattle.single_crash.specs.Setting.{Sound, crash_at, behind_crash, RoundsSince, KnownDead}
 use Rattle.single_crash.specs.Ring.{RingInGrants, RingInRounds}
-use Rattle.single_crash.proofs.Running.{Running, begin, closes, goes_on, stays_known, runs_on}
-use Rattle.single_crash.proofs.Crashing.{everyone, all_but, sound-fresh, sound-run, crash-closes, crash-goes_on, crash-turns, known-dead}
+use Rattle.single_crash.proofs.Running.{Running, closes, goes_on, stays_known, runs_on}
+use Rattle.single_crash.proofs.Crashing.{all_but, sound-fresh, sound-run, crash-closes, crash-goes_on, crash-turns, known-dead}
 use Rattle.single_crash.proofs.Around.{before-below, before-apart}
 use Rattle.single_crash.proofs.Around as around
 use Rattle.single_crash.proofs.OnRing.{left_of, one, one-less, Before, before-fresh, before-all}

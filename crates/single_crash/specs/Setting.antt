@@ -1,7 +1,7 @@
 -- One board dies under the bus master: how many grants later, and how many rounds, each other board suspects it. w is the wiring's number, p where
 -- the drive stands at first, and b the board that dies.
 -- Assumes nothing.
-use Rattle.std.specs.Prelude.{◌≡◌, true, not, Ok, ℕ, ◌+◌, ◌≤◌, ◌<◌, ◌==◌, List}
+use Rattle.std.specs.Prelude.{◌≡◌, true, not, ℕ, ◌+◌, ◌≤◌, ◌<◌, ◌==◌, List}
 use Rattle.table.specs.Sizes.{is_size}
 use Rattle.table.specs.Table.{suspects, live}
 use Rattle.table.specs.Fresh.{fresh_table}
