@@ -5,7 +5,7 @@ SHELL := /bin/bash
 .DELETE_ON_ERROR:
 MAKEFLAGS += --no-builtin-rules
 
-# Where `make install` installs, below DESTDIR; DOCDIR is where the page goes below PREFIX.
+# Where `make install` installs, below DESTDIR; DOCDIR is where pages go below PREFIX.
 PREFIX ?= /usr/local
 DOCDIR ?= share/doc/vcube
 programs := watch sheet convert
@@ -137,7 +137,7 @@ cp $(filter %.h,$^) $(@F:%=bindings/portable/%) $(@D)/
 endef
 
 portable_parts := include/vcube.h $(wildcard bindings/portable/*.h /usr/include/wasm-rt.h)
-target/portable/vcube_portable.c: target/wasm/vcube.wasm bindings/portable/vcube_portable.c $(portable_parts)
+target/portable/vcube_portable.c: target/wasm/vcube.wasm bindings/portable/vcube_portable.c $(portable_parts) include/vcube_plant.h
 	@echo 'building $@ ..' >&2
 	rm -rf $(@D)
 	mkdir -p $(@D)
@@ -188,11 +188,12 @@ install-library: archive shared ## of these the headers, archive, shared library
 	@$(install_library)
 	echo "vcube $(version) is installed below $(to)"
 
-install-programs: programs ## of these vcube-watch, vcube-sheet and vcube-convert, their manual pages, and vcube.html
+install-programs: programs ## of these vcube-watch, vcube-sheet and vcube-convert, their manual pages, vcube(7) and vcube.html
 	@for name in $(programs); do
 	    install -D -m 755 "$(program_folder)/$$name" "$(to)/bin/vcube-$$name"
 	    install -D -m 644 man/vcube-$$name.1 "$(to)/share/man/man1/vcube-$$name.1"
 	done
+	$(install_rules)
 	install -D -m 644 docs/vcube.html "$(to)/$(DOCDIR)/vcube.html"
 	echo "vcube-watch, vcube-sheet and vcube-convert are installed below $(to)"
 
@@ -262,7 +263,7 @@ test-programs: programs
 	@$(call step,tests/programs/run)
 test-page: page
 	@$(call step,tests/page)
-test-c: archive shared
+test-c: archive
 	@$(call step,bindings/c/run)
 test-plant: archive plant target/bin/watch
 	@$(call step,bindings/node/run && tests/plant/run)

@@ -15,7 +15,7 @@
  * In vcube_plant.h table, tally and last granted number are one struct, and the same calls take it in place of up to seven arguments.
  *
  * The manual pages say what each call does and which errors it returns: vcube(3) first, then one page for each group of calls below, and each call
- * is the name of its page too. The rules, by name, are in docs/RULES.md.
+ * is the name of its page too. The rules, by name, are in RULES.md: docs/ of the source, or share/doc/vcube where it is installed.
  *
  * State: the caller keeps table, tally (closed rounds, and tests) and last granted number; the library keeps nothing, not even a pointer. Calls are
  * thread-safe, unless two share memory and one of them writes it. (The portable C takes one call at a time.)
@@ -47,51 +47,40 @@
 #include <stdint.h>
 
 #define VCUBE_VERSION_MAJOR 1
-#define VCUBE_VERSION_MINOR 3
+#define VCUBE_VERSION_MINOR 4
 #define VCUBE_VERSION_PATCH 0
-#define VCUBE_VERSION "1.3.0"
-/* The version as one number: 10300 is 1.3.0. */
+#define VCUBE_VERSION "1.4.0"
+/* The version as one number: 10400 is 1.4.0. */
 #define VCUBE_VERSION_NUMBER (10000 * VCUBE_VERSION_MAJOR + 100 * VCUBE_VERSION_MINOR + VCUBE_VERSION_PATCH)
 
 #ifdef __cplusplus
 extern "C" {
 #endif
 
-/* The wiring of a plant; and the bytes of a line before its row. */
+/* The wiring of a plant. */
 #define VCUBE_WIRING_CUBE 1
 #define VCUBE_WIRING_RING 2
-#define VCUBE_HEAD 6
 
-/* Lengths, in bytes, of a table of n stations; of a line of it, which is also what a board keeps; of a row on the cable; of a saved plant; and of an
- * assignment, for n from 2 to 64. */
-#define VCUBE_TABLE_LENGTH(n) ((size_t)(n) * ((size_t)(n) + VCUBE_HEAD))
-#define VCUBE_LINE_LENGTH(n) ((size_t)(n) + VCUBE_HEAD)
-#define VCUBE_PACKED_LENGTH(n) (((size_t)(n) + 7) / 8)
-#define VCUBE_SAVED_LENGTH(n) (19 + (size_t)(n) * ((size_t)(n) + 10))
-#define VCUBE_ASSIGNMENT_LENGTH(n) (2 * ((size_t)(n) - 1))
+/* Lengths in bytes, for n from 2 to 64. */
+#define VCUBE_HEAD 6                                                          /* a line before its row */
+#define VCUBE_LINE_LENGTH(n) ((size_t)(n) + VCUBE_HEAD)                       /* a line of the table, which is also what a board keeps */
+#define VCUBE_TABLE_LENGTH(n) ((size_t)(n) * ((size_t)(n) + VCUBE_HEAD))      /* the table */
+#define VCUBE_PACKED_LENGTH(n) (((size_t)(n) + 7) / 8)                        /* a row on the cable */
+#define VCUBE_SAVED_LENGTH(n) (19 + (size_t)(n) * ((size_t)(n) + 10))         /* a saved plant */
+#define VCUBE_ASSIGNMENT_LENGTH(n) (2 * ((size_t)(n) - 1))                    /* an assignment */
+#define VCUBE_LONGEST_GROUP 32                                                /* the longest group list */
+#define VCUBE_CHANGE_LENGTH 4                                                 /* a change in the report of a mending */
+#define VCUBE_REPORT_LENGTH(n) (VCUBE_CHANGE_LENGTH * VCUBE_TABLE_LENGTH(n))  /* a report with room for a change of every byte */
+#define VCUBE_WORDS_LENGTH 128                                                /* a buffer for words */
+#define VCUBE_SCHEDULE_LENGTH 8192                                            /* a schedule into which an input is read: 4096 entries */
 
-/* Of a change in the report of a mending, and of a report with room for a change of every byte of the table. */
-#define VCUBE_CHANGE_LENGTH 4
-#define VCUBE_REPORT_LENGTH(n) (VCUBE_CHANGE_LENGTH * VCUBE_TABLE_LENGTH(n))
-
-/* Of the longest group list, of a buffer for words, and of a schedule into which an input is read (4096 entries). */
-#define VCUBE_LONGEST_GROUP 32
-#define VCUBE_WORDS_LENGTH 128
-#define VCUBE_SCHEDULE_LENGTH 8192
-
-/* What the opening of a saved plant holds; the most results that figures are taken of; and, in an assignment: this distance is due. */
-#define VCUBE_EDITION 2
-#define VCUBE_MOST_RESULTS 4096
-#define VCUBE_DUE 255
-
-/* In the sheet: no station was tested. Of the doubt lamp: there is no pair. As the last granted number: none was granted yet. Of a board's next
- * test: there is none. */
-#define VCUBE_NO_STATION 255
-
-/* Byte 4 of a line: no station told this one to leave, as it is live, crashed, or left because alone; or who did was not recorded, which runs and
- * drives never write. */
-#define VCUBE_TOLD_BY_NONE 255
-#define VCUBE_TOLD_NOT_RECORDED 254
+/* Numbers that stand for something else, or are a limit. */
+#define VCUBE_NO_STATION 255            /* no station is tested, or is next; none was granted yet; the doubt lamp has no pair */
+#define VCUBE_TOLD_BY_NONE 255          /* byte 4: no station told it to leave, as it is live, crashed, or left because alone */
+#define VCUBE_TOLD_NOT_RECORDED 254     /* byte 4: who told it to leave was not recorded; runs and drives never write this */
+#define VCUBE_DUE 255                   /* in an assignment: this distance is due */
+#define VCUBE_EDITION 2                 /* what the opening of a saved plant holds */
+#define VCUBE_MOST_RESULTS 4096         /* the most results that figures are taken of */
 
 /* What a call returns. Here and in the three enums below the comments are the library's own words, in which a station is a board. */
 enum vcube_refusal {

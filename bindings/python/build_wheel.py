@@ -15,17 +15,20 @@ from pathlib import Path
 
 ROOT = Path(__file__).resolve().parent
 LIBRARY = 'libvcube.so.1'
+PROJECT = (ROOT / 'pyproject.toml').read_text()
 
 
-def said(key):
-    return re.search(rf'^{key} = "(.*)"$', (ROOT / 'pyproject.toml').read_text(), re.M)[1]
+def said(key, begin='"', end='"'):
+    return re.search(rf'^{key} = {begin}(.*){end}$', PROJECT, re.M)[1]
 
 
+LICENCE = said('license', '{ text = "', '" }')
 NAME = f'{said("name")}-{said("version")}'
 METADATA = f'''Metadata-Version: 2.1
 Name: {said('name')}
 Version: {said('version')}
 Summary: {said('description')}
+License: {LICENCE}
 Requires-Python: {said('requires-python')}
 Provides-Extra: arrays
 Requires-Dist: numpy ; extra == "arrays"

@@ -23,23 +23,6 @@ pub struct Response {
     pub err: String,
 }
 
-/// What is asked for.
-enum Request {
-    Sheet(Plant),
-    Sizes,
-}
-
-/// What is wrong with the arguments, which are counted from 1.
-enum Wrong {
-    NoArgument,
-    Size,
-    Board { argument: usize, size: Size },
-    BoardAgain { argument: usize },
-    FewLive,
-    BesideSizes,
-    NotText,
-}
-
 /// The size and the dead boards, which are the row of every live one.
 struct Plant {
     size: Size,
@@ -48,7 +31,6 @@ struct Plant {
 
 /// What the sheet says about a live board.
 struct Entry {
-    board: u8,
     tested: String,
     tests: usize,
     most: usize,
@@ -57,68 +39,49 @@ struct Entry {
 
 /// What the program prints for the arguments behind its name.
 pub fn respond(arguments: &[&[u8]]) -> Response {
-    match read_arguments(arguments) {
-        Ok(request) => Response {
-            out: print(request),
-            err: String::new(),
-        },
-        Err(wrong) => Response {
-            out: String::new(),
-            err: format!("sheet: {}\n", wrong.sentence()),
-        },
-    }
+    let (out, err) = match print(arguments) {
+        Ok(text) => (text, String::new()),
+        Err(wrong) => (String::new(), format!("sheet: {wrong}\n")),
+    };
+    Response { out, err }
 }
 
-/// Other arguments that begin with a hyphen are the program's matter.
-fn read_arguments(arguments: &[&[u8]]) -> Result<Request, Wrong> {
+/// What is asked for, or what is wrong with the arguments, which are counted from 1. Others
+/// that begin with a hyphen are the program's matter.
+fn print(arguments: &[&[u8]]) -> Result<String, String> {
     if arguments
         .iter()
         .any(|one| std::str::from_utf8(one).is_err())
     {
-        return Err(Wrong::NotText);
+        return Err("an argument is not text in UTF-8".into());
     }
     match arguments {
-        [] => Err(Wrong::NoArgument),
-        [SIZES] => Ok(Request::Sizes),
-        _ if arguments.contains(&SIZES) => Err(Wrong::BesideSizes),
-        [first, boards @ ..] => read_plant(first, boards).map(Request::Sheet),
+        [] => Err("a size is needed, from 2 to 64".into()),
+        [SIZES] => Ok(print_sizes()),
+        _ if arguments.contains(&SIZES) => Err("--sizes takes no other argument".into()),
+        [first, boards @ ..] => read_plant(first, boards).map(|plant| print_sheet(&plant)),
     }
 }
 
 /// The size, and the dead boards from argument 2 on.
-fn read_plant(first: &[u8], boards: &[&[u8]]) -> Result<Plant, Wrong> {
+fn read_plant(first: &[u8], boards: &[&[u8]]) -> Result<Plant, String> {
     let size = read_size(first).and_then(|n| Size::new(n).ok());
-    let size = size.ok_or(Wrong::Size)?;
+    let size = size.ok_or("argument 1 is not a size from 2 to 64")?;
+    let last = size.count() - 1;
     let mut dead = Row::EMPTY;
     for (argument, digits) in (2..).zip(boards) {
         let board = read_station(digits).and_then(|number| size.station(number).ok());
-        let board = board.ok_or(Wrong::Board { argument, size })?;
+        let no_board = || format!("argument {argument} is not a board from 0 to {last}");
+        let board = board.ok_or_else(no_board)?;
         if dead.suspects(board) {
-            return Err(Wrong::BoardAgain { argument });
+            return Err(format!("argument {argument} repeats a board"));
         }
         dead = dead.with(board);
     }
     let plant = Plant { size, dead };
     match plant.live().count() {
-        0 | 1 => Err(Wrong::FewLive),
+        0 | 1 => Err("at least two boards must be live".into()),
         _ => Ok(plant),
-    }
-}
-
-impl Wrong {
-    fn sentence(self) -> String {
-        match self {
-            Wrong::NoArgument => String::from("a size is needed, from 2 to 64"),
-            Wrong::Size => String::from("argument 1 is not a size from 2 to 64"),
-            Wrong::Board { argument, size } => {
-                let last = size.count() - 1;
-                format!("argument {argument} is not a board from 0 to {last}")
-            }
-            Wrong::BoardAgain { argument } => format!("argument {argument} repeats a board"),
-            Wrong::FewLive => String::from("at least two boards must be live"),
-            Wrong::BesideSizes => String::from("--sizes takes no other argument"),
-            Wrong::NotText => String::from("an argument is not text in UTF-8"),
-        }
     }
 }
 
@@ -133,7 +96,6 @@ impl Plant {
             .map(print_board)
             .collect();
         Entry {
-            board: board.number(),
             tests: tested.len(),
             tested: tested.join(" "),
             most: most_with_one_more(self.size, board, self.dead),
@@ -195,13 +157,6 @@ pub(crate) fn most_with_one_more(size: Size, board: Station, row: Row) -> usize 
     greatest(others.map(|other| tested(size, board, row.with(other)).count()))
 }
 
-fn print(request: Request) -> String {
-    match request {
-        Request::Sheet(plant) => print_sheet(&plant),
-        Request::Sizes => print_sizes(),
-    }
-}
-
 fn print_board(board: Station) -> String {
     board.number().to_string()
 }
@@ -232,32 +187,15 @@ fn print_sheet(plant: &Plant) -> String {
         most_grants(plant.size, plant.dead)
     );
     let mut text = first + &known + &format!("\nboard  {TESTED:width$}  {FIGURES}\n");
-    for entry in &entries {
-        text.push_str(&entry.print_tested(width));
+    for (board, entry) in plant.live().map(print_board).zip(&entries) {
+        let (tested, tests, most) = (&entry.tested, entry.tests, entry.most);
+        text += &format!("{board:>5}  {tested:width$}  {tests:13}  {most:23}\n");
     }
-    text.push_str(&format!("\nboard  {NOT_TESTED}\n"));
-    for entry in &entries {
-        text.push_str(&entry.print_not_tested());
+    text += &format!("\nboard  {NOT_TESTED}\n");
+    for (board, entry) in plant.live().map(print_board).zip(&entries) {
+        text += &format!("{board:>5}  {}\n", entry.not_tested);
     }
     text
-}
-
-impl Entry {
-    /// The line on who is tested, with a list of this width.
-    fn print_tested(&self, width: usize) -> String {
-        let Entry {
-            board,
-            tested,
-            tests,
-            most,
-            ..
-        } = self;
-        format!("{board:5}  {tested:width$}  {tests:13}  {most:23}\n")
-    }
-
-    fn print_not_tested(&self) -> String {
-        format!("{:5}  {}\n", self.board, self.not_tested)
-    }
 }
 
 /// The table over all sizes: 21 rows of three sizes each.

@@ -72,8 +72,8 @@ class Browser {
         await this.wait("document.documentElement?.dataset.ready === '1'");
     }
 
-    async wait(condition) {
-        const until = Date.now() + 60000;
+    async wait(condition, seconds = 60) {
+        const until = Date.now() + 1000 * seconds;
         for (;;) {
             if (await this.value(condition)) return;
             if (Date.now() > until) throw new Error(`this did not become so: ${condition}; console: ${this.console.join('; ')}`);

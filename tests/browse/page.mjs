@@ -5,7 +5,7 @@ import { readFileSync, writeFileSync } from 'node:fs';
 import { pathToFileURL } from 'node:url';
 import { Chromium, Firefox } from './browser.mjs';
 import { audit, focused } from './audit.mjs';
-import { Simulator, granted, input_of, moments, rounds_until_known } from './expected.mjs';
+import { Simulator, input_of, moments, rounds_until_known } from './expected.mjs';
 
 const [name, page, folder, samples, option, pictures] = process.argv.slice(2);
 const address = pathToFileURL(page).href;
@@ -120,11 +120,6 @@ function compare(found, expected, what) {
     check(rest.entry.startsWith(expected.entry), `${what}: the entry "${rest.entry}" does not begin with "${expected.entry}"`);
     const { entry, ...told } = rest;
     const { entry: _, ...wanted } = expected;
-    if (wanted.boards === undefined) {
-        const of_rows = told.messages.map((message) => message.slice(0, 3));
-        same({ rounds: told.rounds, tests: told.tests, at: told.at, arrows: told.arrows, messages: of_rows }, wanted, what);
-        return;
-    }
     for (const key of ['rounds', 'tests', 'at', 'arrows', 'messages', 'lamp', 'granted', 'boards', 'matrix']) same(told[key], wanted[key], `${what}, ${key}`);
     same(signs, wanted.boards.map(({ status }, board) => `Board ${board}, ${status}`), `${what}, the circle`);
 }
@@ -191,7 +186,7 @@ async function slots(browser) {
     same(red, [['5', '7, above']], 'tests above the slot');
 }
 
-/// Rows on the cable with names, and on the ring, of which the simulator saves no plant: 0 finds 1 dead, and then exchanges with 2. 3 hears of it
+/// Rows on the cable with names, and on the ring: 0 finds 1 dead, and then exchanges with 2. 3 hears of it
 /// from 0, and sends the row that it joined that into. The reply of 3 to 2 is late.
 async function sends(browser) {
     await open(browser, link(4, ['C 1', 'T 0', 'T 0', 'T 3', 'L 2'], 3, 'ring', '&name2=the%20long%20(press)'));
@@ -207,18 +202,17 @@ async function sends(browser) {
     same((await browser.value(`press('first')`)).messages, [], 'messages before the first entry');
 }
 
-/// The bound on rounds and turns: on the cube by the simulator; on the ring half of the boards, in each a turn for each board and for each live one.
+/// The bound on rounds and turns.
 async function bounds(browser) {
-    const sizes = [2, 3, 4, 5, 8, 9, 16, 17, 32, 33, 64].map((n) => [n, []]);
-    const of_cube = ([n, dead]) => ['cube', n, dead, simulator.worst_case(n), simulator.turns_of_round(n, dead)];
-    const on_cube = [...sizes, [8, [4]], [11, [0, 10]]].map(of_cube);
-    const on_ring = [[2, []], [3, []], [8, []], [8, [4]], [63, []]].map(([n, dead]) => ['ring', n, dead, Math.floor(n / 2), 2 * n - dead.length]);
-    for (const [wiring, n, dead, rounds, turns] of [...on_cube, ...on_ring]) {
-        await open(browser, link(n, dead.map((board) => `C ${board}`), dead.length, wiring));
+    const plants = [2, 3, 4, 5, 8, 9, 16, 17, 32, 33, 64].map((n) => ['cube', n, []]);
+    plants.push(['cube', 8, ['C 4']], ['cube', 11, ['C 0', 'C 10']], ['ring', 8, ['C 4']], ...[2, 3, 8, 63].map((n) => ['ring', n, []]));
+    for (const [wiring, n, dead] of plants) {
+        const [rounds, turns] = simulator.states(n, dead, wiring === 'ring').at(-1).wait;
+        await open(browser, link(n, dead, dead.length, wiring));
         const said = await browser.value(`document.getElementById('bound').textContent`);
-        const closed = `at most ${rounds} closed ${rounds === 1 ? 'round' : 'rounds'}, ${(rounds * turns).toLocaleString('en')} turns`;
+        const closed = `at most ${rounds} closed ${rounds === 1 ? 'round' : 'rounds'}, ${turns.toLocaleString('en')} turns`;
         const conditions = 'from the start of a round with the lamp out, if no further board crashes, no reply is late and two boards are live';
-        same(said, `${closed}, ${conditions}`, `the bound of ${n} boards without ${dead}, ${wiring}`);
+        same(said, `${closed}, ${conditions}`, `the bound of ${n} boards, ${wiring}, ${dead}`);
     }
 }
 
@@ -304,7 +298,7 @@ async function plays(browser) {
     await browser.value(`press('play')`);
     const [text, number] = await browser.value(`[document.getElementById('play').textContent, Number(document.getElementById('moment').max)]`);
     same([text, await message(browser)], ['Play', ''], 'after a pause');
-    while (entries.length < number) entries.push(`T ${granted(simulator.saved(input_of(8, entries)), Number(entries.at(-1).slice(2)))}`);
+    while (entries.length < number) entries.push(`T ${simulator.states(8, entries).at(-1).granted}`);
     compare(await browser.value('said()'), moments(simulator, 8, entries, false).at(-1), 'what was played');
     // longer than ten steps took
     await pause(200);
@@ -508,7 +502,8 @@ async function files(browser) {
     same(Buffer.from(await kept(browser)).toString(), input.toString(), 'the input, saved');
     await open(browser, link(2, [], 0));
     same(await drop(browser, saved), '', 'a dropped saved plant');
-    const opened = { ...expected, at: '0 of 0', entry: 'The saved plant as it was opened.', messages: [], granted: granted(saved, undefined) };
+    // No board was granted yet: the first that is live and has not finished its pass is.
+    const opened = { ...expected, at: '0 of 0', entry: 'The saved plant as it was opened.', messages: [], granted: '0' };
     compare(await browser.value('said()'), opened, 'a dropped saved plant');
     // names from a file, beside what is shown
     same(await drop(browser, readFileSync(`${samples}/eight-boards-names.txt`)), '', 'dropped names');

@@ -57,7 +57,10 @@ CALLS = [
     ('./page -o', 2, '', 'page: -o needs a file (./page --help)\n'),
     ('samples/slowest --help', 0, 'Usage: samples/slowest SIZE..', ''),
     ('samples/slowest', 2, '', 'Usage: samples/slowest SIZE..'),
-    ('samples/slowest 2', 2, '', 'slowest: there is no plant of size 2 (samples/slowest --help says what there is)\n'),
+    ('samples/slowest -h', 0, 'Usage: samples/slowest SIZE..', ''),
+    ('samples/slowest 3 4', 2, '', 'Usage: samples/slowest SIZE..'),
+    *[(f'samples/slowest {size}', 2, '', f'slowest: there is no plant of size {size} (samples/slowest --help says what there is)\n')
+      for size in ('2', '65', '03', '640', 'x', '*', '--all')],
     ('samples/slowest 3', 0, '3\nC 2\nT 1\nT 1\nT 0\nT 0\nT 0\nT 0\nT 0\nT 0\nT 1\nT 1\n', ''),
 ]
 

@@ -3,7 +3,7 @@
 import re
 
 from case import Case
-from words import document, usage, WRITE_FAILS
+from words import document, sample, usage, WRITE_FAILS
 
 LONG = 100_000  # longer than any buffer
 NO_SIZE = 'a size is needed, from 2 to 64'
@@ -15,7 +15,7 @@ BESIDE_SIZES = '--sizes takes no other argument'
 NOT_TEXT = 'an argument is not text in UTF-8'
 PAGE = document('docs/COMMISSIONING.md')  # what it shows must be what is printed
 EIGHT_BUT_4 = re.sub('^    ', '', re.search(r'^    8 boards, dead: 4\n(    .*\n|\n)+', PAGE, re.M).group().rstrip('\n') + '\n', flags=re.M)
-ALL_SIZES = re.search(r'^\| boards \| nobody dead .*\n(\|.*\n)+', PAGE, re.M).group()
+ALL_SIZES = sample('sizes.md').decode()
 TWO = (  # by hand: each tests the other, also where that is dead; two rounds, each of a live board's test and its last turn
     '2 boards, dead: none\nOne more dead board is known everywhere after at most 2 rounds, 4 grants\n\n'
     'board  whom it tests, in order  tests a round  most with one more dead\n'

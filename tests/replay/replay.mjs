@@ -85,8 +85,20 @@ function make(exports, start, call) {
     return wrong;
 }
 
-/// Makes all calls; gives how many were made, and what was wrong.
-export async function replay(module, file) {
+/// Makes all calls; gives how many were made, and what was wrong. Then drives 1,000 rounds; gives how many grants, and how long they took.
+export async function replay_and_drive(module, file) {
+    const { milliseconds, grants } = await drive(module, 1000);
+    return { ...(await replay(module, file)), milliseconds, grants: String(grants) };
+}
+
+/// Says what was found. Gives the exit status.
+export function report(name, { made, wrong, milliseconds, grants }) {
+    for (const text of wrong) console.error(`${name}: ${text}`);
+    console.log(`${name}: ${made} calls made, ${wrong.length} wrong; ${grants} grants driven in ${Math.round(milliseconds)} ms`);
+    return wrong.length > 0 ? 1 : 0;
+}
+
+async function replay(module, file) {
     const { instance } = await WebAssembly.instantiate(module, {});
     const start = start_of(instance.exports);
     let made = 0;
@@ -101,7 +113,7 @@ export async function replay(module, file) {
 }
 
 /// The rounds of a plant of 64 boards, each driven from the table that the one before left: how long they take, in milliseconds.
-export async function drive(module, rounds) {
+async function drive(module, rounds) {
     const { instance } = await WebAssembly.instantiate(module, {});
     const { memory, vcube_fresh_table, vcube_drive } = instance.exports;
     const length = 64 * 70;

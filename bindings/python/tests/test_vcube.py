@@ -50,8 +50,16 @@ class PlantTest(unittest.TestCase):
         self.assertEqual([tuple(step) for step in steps], [(0, 1, 3, 0), (0, 2, 1, 0), (0, None, 0, 0), (2, 3, 1, 0), (2, None, 0, 0), (3, 0, 1, 0),
                                                            (3, None, 0, 0)])
         self.assertEqual((plant.rounds, plant.tests), (1, 4))
-        for call in (plant.save, lambda: plant.slot(0), lambda: plant.assignment(0)):
+        for call in (lambda: plant.slot(0), lambda: plant.assignment(0)):
             self.assertRaises(ValueError, call)
+        again = Plant.load(plant.save(), Wiring.RING)
+        self.assertEqual((again.wiring, again.rounds, again.tests, again.table), (Wiring.RING, 1, 4, plant.table))
+        self.assertEqual(again.next(3), 0)
+        plant = Plant(5, Wiring.RING)
+        plant.run([(1, 0)] * 2)
+        with self.assertRaises(Refused) as caught:  # next distance 5 of a finished line is none of the cube's ends
+            plant.save()
+        self.assertEqual(caught.exception.refusal, Refusal.LINE_RULE)
 
     def test_refused_run_keeps_what_was_taken(self):
         plant = Plant(2)
@@ -70,6 +78,9 @@ class PlantTest(unittest.TestCase):
     def test_numbers_that_no_call_takes(self):
         plant = Plant(8)
         for make, number in ((lambda: Plant(1), 1), (lambda: Plant(65), 1), (lambda: Plant(2 ** 64 + 8), 1), (lambda: Plant(8, 3), 24),
+                             (lambda: Plant(8, -1), 24), (lambda: Plant.from_table(2 ** 70, b''), 1), (lambda: Plant.from_table(8, b'', 3), 24),
+                             (lambda: Plant.from_table(8, b'').save(), 2), (lambda: Plant.load(Plant(8).save(), 3), 24),
+                             (lambda: vcube.Board(8, 0, 3), 24), (lambda: vcube.Board(2 ** 70, 0), 1), (lambda: vcube.Board(8, -1), 9),
                              (lambda: plant.slot(8), 9), (lambda: plant.slot(-1), 9), (lambda: plant.slot(2 ** 64), 9),
                              (lambda: plant.suspects(0, 8), 9), (lambda: plant.suspects(8, 0), 9), (lambda: vcube.group_list(8, 5, 4), 12),
                              (lambda: vcube.group_list(8, 8, 1), 9), (lambda: vcube.Board(8, 8), 9), (lambda: vcube.figures([]), 14),
@@ -197,7 +208,10 @@ class ResultsTest(unittest.TestCase):
         self.assertEqual(season.figures(), vcube.Figures(11, 2, 9, Fraction(49, 11), Fraction(448, 121)))
         self.assertEqual(vcube.figures(days[0]), vcube.Figures(4, 2, 4, Fraction(7, 2), Fraction(3, 4)))
         self.assertEqual(vcube.figures(days[0], days[2]), vcube.Figures(8, 2, 9, Fraction(5), Fraction(4)))
-        self.assertRaises(ValueError, vcube.figures, [65536])
+        for make in (lambda: vcube.figures([65536]), lambda: vcube.Totals(-1).figures(), lambda: Plant.from_table(2, bytes(16), tests=2 ** 32)):
+            with self.assertRaises(ValueError) as caught:
+                make()
+            self.assertNotIsInstance(caught.exception, Refused)
 
     def test_input(self):
         read = vcube.read_input('4\nT 0\nL 1\nC 12\n')
@@ -260,7 +274,7 @@ class HeaderTest(unittest.TestCase):
                              ('TOLD_NOT_RECORDED', vcube.TOLD_NOT_RECORDED), ('DUE', vcube.plant.ASSIGNMENT_DUE),
                              ('CHANGE_LENGTH', vcube.plant.CHANGE), ('WORDS_LENGTH', _library.WORDS_LENGTH),
                              ('SCHEDULE_LENGTH', _library.SCHEDULE_LENGTH)):
-            self.assertIn(f'#define VCUBE_{name} {number}\n', self.text)
+            self.assertRegex(self.text, rf'(?m)^#define VCUBE_{name} {number} *$')
 
     def test_calls(self):
         types = {'size_t': _library.Size, 'uint32_t': ctypes.c_uint32, 'uint8_t *': ctypes.POINTER(ctypes.c_uint8),

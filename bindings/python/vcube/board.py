@@ -30,9 +30,9 @@ class Board:
     """
 
     def __init__(self, size: int, number: int, wiring: int = Wiring.CUBE) -> None:
-        self._size, self._number, self._wiring = operator.index(size), operator.index(number), Wiring(wiring)
         self._line = _library.buffer(size + HEAD if 2 <= size <= 64 else 0)
-        checked(library.vcube_board_fresh(*self._arguments()))
+        checked(library.vcube_board_fresh(wiring, size, number, self._line, len(self._line)))
+        self._size, self._number, self._wiring = operator.index(size), operator.index(number), Wiring(wiring)
 
     @classmethod
     def from_line(cls, size: int, number: int, line: bytes, wiring: int = Wiring.CUBE) -> Board:

@@ -95,6 +95,12 @@ def schedule(entries: Entries) -> bytes:
     return bytes(number if 0 <= number <= 255 else 255 for number in numbers)
 
 
+def fresh_table(wiring: int, size: int) -> Array[c_uint8]:
+    table = _library.buffer(size * (size + HEAD) if 2 <= size <= 64 else 0)
+    checked(library.vcube_fresh_table(wiring, size, table, len(table)))
+    return table
+
+
 def named(number: int) -> Optional[int]:
     return None if number == NOBODY else number
 
@@ -115,9 +121,7 @@ class Plant:
     """
 
     def __init__(self, size: int, wiring: int = Wiring.CUBE) -> None:
-        table = _library.buffer(size * (size + HEAD) if 2 <= size <= 64 else 0)
-        checked(library.vcube_fresh_table(wiring, size, table, len(table)))
-        self._keep(size, wiring, table, 0, 0, None)
+        self._keep(size, wiring, fresh_table(wiring, size), 0, 0, None)
 
     def _keep(self, size: int, wiring: int, table: Array[c_uint8], rounds: int, tests: int, last_granted: Optional[int]) -> None:
         self._size, self._wiring, self._table = operator.index(size), Wiring(wiring), table
@@ -127,7 +131,11 @@ class Plant:
     @classmethod
     def from_table(cls, size: int, table: bytes, wiring: int = Wiring.CUBE, rounds: int = 0, tests: int = 0,
                    last_granted: Optional[int] = None) -> Plant:
-        """A plant with the bytes of this table. They are not checked here: calls refuse a table that is not valid, and `mend` mends it."""
+        """A plant with the bytes of this table. They are not checked here: calls refuse a table that is not valid, and `mend` mends it.
+
+        Size and wiring are checked. A count that 32 bits do not hold is a ValueError.
+        """
+        fresh_table(wiring, size)
         for count in (rounds, tests):
             if not 0 <= count <= MOST_COUNT:
                 raise ValueError(f'a count of rounds or tests is 0 to {MOST_COUNT}, not {count}')
@@ -136,19 +144,21 @@ class Plant:
         return plant
 
     @classmethod
-    def load(cls, saved: bytes) -> Plant:
-        """The plant that `save` gave these bytes of, on the cube."""
+    def load(cls, saved: bytes, wiring: int = Wiring.CUBE) -> Plant:
+        """The plant that `save` gave these bytes of. They do not say the wiring: give that of the plant."""
         given, size = _library.copied(saved), saved_size(saved)
+        fresh_table(wiring, size)
         table, n, rounds, tests = _library.buffer(size * (size + HEAD)), c_size_t(), c_uint32(), c_uint32()
         checked(library.vcube_load(given, len(given), table, len(table), byref(n), byref(rounds), byref(tests)))
         plant = cls.__new__(cls)
-        plant._keep(size, Wiring.CUBE, table, rounds.value, tests.value, None)
+        plant._keep(size, wiring, table, rounds.value, tests.value, None)
         return plant
 
     def save(self) -> bytes:
-        """The plant as bytes for a file. It has to be wired as the cube; the last granted number is not saved."""
-        if self._wiring != Wiring.CUBE:
-            raise ValueError('a saved plant does not say the wiring, and is loaded as a cube: keep the table of a ring')
+        """The plant as bytes for a file: size, tally and table, but neither wiring nor last granted number.
+
+        A table of a ring is judged as one of the cube: right after the entry that closes a round it can be saved.
+        """
         saved = _library.buffer(19 + self._size * (self._size + 10))
         checked(library.vcube_save(self._size, self._table, len(self._table), self._rounds, self._tests, saved, len(saved)))
         return bytes(saved)

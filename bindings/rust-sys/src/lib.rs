@@ -1,5 +1,5 @@
 //! The calls of the vCube watch library, as `include/vcube.h` of the repository declares them, with the same names, arguments and structs, and
-//! those constants of the header that are plain numbers.
+//! those constants of the header that are plain numbers. Those that are bytes of a table, a sheet or a file, or errors, are `u8`.
 //!
 //! That header says what each call does, what has to hold of its pointers, and which numbers it returns. The crate `vcube` has the same calls as
 //! safe functions over slices, the numbers of refusals, kinds, statuses and outcomes as enums, and a `Plant` that owns its table: take that, unless
@@ -25,7 +25,7 @@
 //! let mut table = [0; 2 * (2 + VCUBE_HEAD)];
 //! // The pointer is valid for the length.
 //! let number = unsafe { vcube_fresh_table(VCUBE_WIRING_CUBE, 2, table.as_mut_ptr(), table.len()) };
-//! assert_eq!(number, 0);
+//! assert_eq!(number, vcube_sys::VCUBE_ACCEPTED);
 //! assert_eq!(table, [0, 1, 0, 0, 255, 0, 0, 0, 0, 1, 0, 0, 255, 0, 0, 0]);
 //! ```
 
@@ -60,8 +60,8 @@ pub const VCUBE_LONGEST_GROUP: usize = 32;
 /// In an assignment: this distance is due.
 pub const VCUBE_DUE: u8 = 255;
 
-/// No station: none was tested, granted or doubted, or is to be tested next.
-pub const VCUBE_NO_STATION: u8 = 255;
+/// No station: none was tested, granted or doubted, or is to be tested next. In the run sheet it is one byte.
+pub const VCUBE_NO_STATION: usize = 255;
 
 /// Byte 4 of a line: no station told this one to leave.
 pub const VCUBE_TOLD_BY_NONE: u8 = 255;
@@ -77,6 +77,139 @@ pub const VCUBE_WORDS_LENGTH: usize = 128;
 
 /// The length of a schedule into which an input is read.
 pub const VCUBE_SCHEDULE_LENGTH: usize = 8192;
+
+/// The tag of a field of a saved plant: the size.
+pub const VCUBE_TAG_SIZE: u8 = 1;
+
+/// The tag of a field of a saved plant: the tally.
+pub const VCUBE_TAG_TALLY: u8 = 2;
+
+/// The tag of a field of a saved plant: a line.
+pub const VCUBE_TAG_LINE: u8 = 3;
+
+/// The tag of a field of a saved plant: the opening.
+pub const VCUBE_TAG_OPENING: u8 = 4;
+
+// The numbers of the rules, with the words of the library. `make words` makes them.
+
+/// No error.
+pub const VCUBE_ACCEPTED: u8 = 0;
+
+/// Refused: a plant has 2 to 64 boards.
+pub const VCUBE_REFUSED_SIZE_OUT_OF_RANGE: u8 = 1;
+
+/// Refused: the table's length is not n(n + 6).
+pub const VCUBE_REFUSED_TABLE_LENGTH: u8 = 2;
+
+/// Refused: a line breaks a line rule.
+pub const VCUBE_REFUSED_LINE_RULE: u8 = 3;
+
+/// Refused: every live board has finished its pass, but the round is not closed.
+pub const VCUBE_REFUSED_ROUND_NOT_CLOSED: u8 = 4;
+
+/// Refused: the schedule has an odd number of bytes.
+pub const VCUBE_REFUSED_SCHEDULE_LENGTH: u8 = 5;
+
+/// Refused: the run sheet is not twice as long as the schedule.
+pub const VCUBE_REFUSED_SHEET_LENGTH: u8 = 6;
+
+/// Refused: the count of rounds or of tests is at its limit, 4,294,967,295.
+pub const VCUBE_REFUSED_TALLY_FULL: u8 = 7;
+
+/// Refused: the kind of the entry is not 1, 2 or 3.
+pub const VCUBE_REFUSED_UNKNOWN_KIND: u8 = 8;
+
+/// Refused: no board has this number: boards are numbered from 0 to n - 1.
+pub const VCUBE_REFUSED_NO_SUCH_STATION: u8 = 9;
+
+/// Refused: this board is not live.
+pub const VCUBE_REFUSED_NOT_LIVE: u8 = 10;
+
+/// Refused: this board has already finished its pass in this round.
+pub const VCUBE_REFUSED_PASS_FINISHED: u8 = 11;
+
+/// Refused: there is no such level: levels go from 1 to d.
+pub const VCUBE_REFUSED_NO_SUCH_LEVEL: u8 = 12;
+
+/// Refused: the list or buffer for the answer has the wrong length.
+pub const VCUBE_REFUSED_LIST_LENGTH: u8 = 13;
+
+/// Refused: there are no results to compute figures from.
+pub const VCUBE_REFUSED_NO_RESULT: u8 = 14;
+
+/// Refused: there are more than 4,096 results, or the totals are higher than 4,096 results can give.
+pub const VCUBE_REFUSED_TOO_MANY_RESULTS: u8 = 15;
+
+/// Refused: the last granted number is neither a board's number nor 255.
+pub const VCUBE_REFUSED_LAST_GRANTED: u8 = 16;
+
+/// Refused: no board is live.
+pub const VCUBE_REFUSED_NONE_LIVE: u8 = 17;
+
+/// Refused: the file is cut off: a field or its head goes past the end.
+pub const VCUBE_REFUSED_FIELD_PAST_END: u8 = 18;
+
+/// Refused: the field with the size or the tally is missing, appears twice or has the wrong length.
+pub const VCUBE_REFUSED_SIZE_OR_TALLY_FIELD: u8 = 19;
+
+/// Refused: a board's line in the file is missing, appears twice, has the wrong length or names no board.
+pub const VCUBE_REFUSED_LINE_FIELD: u8 = 20;
+
+/// Refused: the file does not begin as edition 2 does; if it is of edition 1, convert it first.
+pub const VCUBE_REFUSED_NO_OPENING: u8 = 21;
+
+/// Refused: a field is out of order or has an unknown tag.
+pub const VCUBE_REFUSED_FIELD_ORDER: u8 = 22;
+
+/// Refused: the buffer for the report has fewer than 4n(n + 6) bytes.
+pub const VCUBE_REFUSED_REPORT_TOO_SHORT: u8 = 23;
+
+/// Refused: the wiring is neither 1, the cube, nor 2, the ring.
+pub const VCUBE_REFUSED_NO_SUCH_WIRING: u8 = 24;
+
+/// Refused: the length of the board's line is not n + 6.
+pub const VCUBE_REFUSED_LINE_LENGTH: u8 = 25;
+
+/// Kind of an entry: turn.
+pub const VCUBE_KIND_TURN: u8 = 1;
+
+/// Kind of an entry: turn whose reply comes late.
+pub const VCUBE_KIND_LATE_TURN: u8 = 2;
+
+/// Kind of an entry: crash.
+pub const VCUBE_KIND_CRASH: u8 = 3;
+
+/// Status: live.
+pub const VCUBE_STATUS_LIVE: u8 = 0;
+
+/// Status: crashed.
+pub const VCUBE_STATUS_CRASHED: u8 = 1;
+
+/// Status: left because told.
+pub const VCUBE_STATUS_TOLD: u8 = 2;
+
+/// Status: left because alone.
+pub const VCUBE_STATUS_ALONE: u8 = 3;
+
+/// Outcome: pass finished.
+pub const VCUBE_OUTCOME_PASS_FINISHED: u8 = 0;
+
+/// Outcome: exchanged.
+pub const VCUBE_OUTCOME_EXCHANGED: u8 = 1;
+
+/// Outcome: told, and left.
+pub const VCUBE_OUTCOME_TOLD: u8 = 2;
+
+/// Outcome: no reply.
+pub const VCUBE_OUTCOME_NO_REPLY: u8 = 3;
+
+/// Outcome: crash.
+pub const VCUBE_OUTCOME_CRASH: u8 = 4;
+
+/// Outcome: the tested board was told, and left.
+pub const VCUBE_OUTCOME_TESTED_TOLD: u8 = 5;
+
+// That was the last of them.
 
 /// A fraction in lowest terms, its lower part positive. Zero is 0/1.
 #[derive(Clone, Copy, Debug, Default, PartialEq, Eq, Hash)]
@@ -121,7 +254,7 @@ pub struct vcube_totals {
 }
 
 unsafe extern "C" {
-    /// Version of the library that is linked, as one number: 10300 is 1.3.0.
+    /// Version of the library that is linked, as one number: 10400 is 1.4.0.
     pub safe fn vcube_version() -> u32;
     /// Fresh table.
     pub fn vcube_fresh_table(wiring: usize, n: usize, table: *mut u8, table_length: usize) -> u8;

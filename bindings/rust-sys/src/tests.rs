@@ -129,10 +129,17 @@ fn constants_are_those_of_the_header() {
         let is_number = number.bytes().all(|byte| byte.is_ascii_digit());
         (is_number && !name.starts_with("VCUBE_VERSION")).then(|| format!("{name} {number}"))
     });
-    let declared = declared();
+    let (header, declared) = (header(), declared());
     let constants = pieces(&declared, "pub const ", ";").map(|piece| {
         let (name, number) = piece.split_once(": ").expect("a type");
         format!("{name} {}", number.split_once(" = ").expect("a number").1)
     });
-    assert_same(constants, defined);
+    assert_same(constants, defined.chain(header.split([',', '{', '}']).filter_map(case_of_enum)));
+}
+
+/// `VCUBE_KIND_TURN = 1` is `VCUBE_KIND_TURN 1`.
+fn case_of_enum(piece: &str) -> Option<String> {
+    let (name, number) = piece.trim().split_once(" = ")?;
+    let is_number = number.bytes().all(|byte| byte.is_ascii_digit());
+    is_number.then(|| format!("{name} {number}"))
 }

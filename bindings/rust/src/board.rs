@@ -231,7 +231,7 @@ impl Board {
     pub fn next(&self) -> Result<Option<Station>, Refusal> {
         let mut tested = 0;
         accepted(raw::board_next(self.wiring(), self.n, self.own.0, self.line(), &mut tested))?;
-        Ok((tested != usize::from(NO_STATION)).then_some(Station(tested)))
+        Ok((tested != NO_STATION).then_some(Station(tested)))
     }
 
     /// Board, row: the board's row, packed, as a reply or an exchange. A board that is

@@ -6,7 +6,7 @@ use alloc::vec::Vec;
 
 /// Stands in the sheet where no station was tested, and is the last granted
 /// number where none was granted yet.
-pub(crate) const NO_STATION: u8 = vcube_sys::VCUBE_NO_STATION;
+pub(crate) const NO_STATION: usize = vcube_sys::VCUBE_NO_STATION;
 
 /// An entry of a schedule.
 #[derive(Clone, Copy, Debug, PartialEq, Eq, Hash)]
@@ -80,7 +80,7 @@ impl SheetLine {
         let [station, tested, outcome, status] = bytes;
         Some(SheetLine {
             station: Station(station.into()),
-            tested: (tested != NO_STATION).then_some(Station(tested.into())),
+            tested: (usize::from(tested) != NO_STATION).then_some(Station(tested.into())),
             outcome: Outcome::from_number(outcome)?,
             status: Status::from_number(status)?,
         })

@@ -116,5 +116,5 @@ pub fn drive(
 
 /// The last granted number that the library is handed.
 fn last_number(last: Option<Station>) -> usize {
-    last.map_or(NO_STATION.into(), |station| station.0)
+    last.map_or(NO_STATION, |station| station.0)
 }

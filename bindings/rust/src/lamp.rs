@@ -42,6 +42,6 @@ pub fn doubt_lamp(wiring: Wiring, n: usize, table: &[u8]) -> Result<Option<Doubt
     let (mut by, mut of) = (0, 0);
     let number = raw::doubt_lamp(number_of(wiring), n, table, &mut by, &mut of);
     accepted(number)?;
-    let is_lit = by != usize::from(NO_STATION);
+    let is_lit = by != NO_STATION;
     Ok(is_lit.then_some(Doubt { by: Station(by), of: Station(of) }))
 }

@@ -187,7 +187,7 @@ impl Answer {
     }
 }
 
-/// The version of this crate as one number: 10300 is 1.3.0.
+/// The version of this crate as one number: 10400 is 1.4.0.
 pub const VERSION: u32 = 10_000 * number(env!("CARGO_PKG_VERSION_MAJOR"))
     + 100 * number(env!("CARGO_PKG_VERSION_MINOR"))
     + number(env!("CARGO_PKG_VERSION_PATCH"));

@@ -17,6 +17,7 @@ use Rattle.lists.proofs.SumLaws.{sum-add}
 use Rattle.table.specs.Table.{table_length, status, status_told, status_crashed, status_alone, told_by, live}
 use Rattle.table.specs.Properties.{live_count, no_live_suspicion, none_suspected}
 use Rattle.table.proofs.Accepting.{Accepted}
+use Rattle.table.specs.declared.wiring.Wiring.{Wiring}
 use Rattle.plant.specs.Turn.{makes_test, turn_tested, turn_outcome}
 use Rattle.station.specs.Outcome.{outcome_tested_told}
 use Rattle.plant.specs.Entry.{Entry, State, is_crash, entry_refusal, after, tested_of, outcome_of}
@@ -56,7 +57,8 @@ late-cause n t none xs j hj (inl p) = absurd (none-suspects n t none j hj p)
 late-cause n t none xs j hj (inr l) = l
 
 -- the tested station, where it is told
-tested-below : (w n : ℕ) (s : State) (e : Entry) → Accepted w n s.table → entry_refusal n s e ≡ 0 → outcome_of w n s.table e ≡ outcome_tested_told
+tested-below : (w : Wiring) (n : ℕ) (s : State) (e : Entry) → Accepted w n s.table → entry_refusal n s e ≡ 0
+    → outcome_of w n s.table e ≡ outcome_tested_told
     → tested_of w n s.table e < n
 unfolding outcome_of tested_of turn_outcome turn_tested
 tested-below w n s e ok z =
@@ -65,7 +67,7 @@ tested-below w n s e ok z =
     (λ b. rw (c, b) (λ q. absurd (omega (arith, q)))))
 
 -- a taken entry, behind those that lead from s₀ to the state that it finds
-module _ (w n : ℕ) (s : State) (e : Entry) (ok : Accepted w n s.table) (z : entry_refusal n s e ≡ 0) where
+module _ (w : Wiring) (n : ℕ) (s : State) (e : Entry) (ok : Accepted w n s.table) (z : entry_refusal n s e ≡ 0) where
   told-suspected : (k : ℕ) → k < n → live n s.table k ≡ true → status n (after w n s e).table k ≡ status_told → IsSuspected n s.table k
   told-suspected k hk l two = by (fared w n s e ok z k hk l)
     where
@@ -106,7 +108,7 @@ module _ (w n : ℕ) (s : State) (e : Entry) (ok : Accepted w n s.table) (z : en
 -- what holds of each taken entry behind those before it
 each-entry : {n : ℕ} {s s' : State} {ys : List Taken} → Chain n s ys s' → (before : List Taken) (x : Taken) (rest : List Taken)
     → ys ≡ before ++ (x ∷ rest) → (P : Taken → Type 0)
-    → ((w : ℕ) (s₁ : State) (e : Entry) → Chain n s before s₁ → Accepted w n s₁.table → entry_refusal n s₁ e ≡ 0 → P (taken_at w n s₁ e)) → P x
+    → ((w : Wiring) (s₁ : State) (e : Entry) → Chain n s before s₁ → Accepted w n s₁.table → entry_refusal n s₁ e ≡ 0 → P (taken_at w n s₁ e)) → P x
 each-entry c before x rest p P make =
     let r = parted c before x rest p in
     subst (λ (m : ℕ). P (taken_at x.wiring m x.before x.entry)) (sym r.size) (make x.wiring x.before x.entry r.first r.ok r.taken)

@@ -8,6 +8,7 @@ use Prim.Native.Nat.{ℕ, ◌<◌}
 use Rattle.table.specs.Table.{status, status_crashed, status_told, suspects, live}
 use Rattle.lists.proofs.BoolLaws.{neither}
 use Rattle.table.proofs.Accepting.{Accepted}
+use Rattle.table.specs.declared.wiring.Wiring.{Wiring}
 use Rattle.plant.specs.Entry.{Entry, State, entry_refusal, after}
 use Rattle.detection.specs.Runs.{Taken}
 use Rattle.detection.specs.Rounds.{any_taken}
@@ -31,7 +32,7 @@ module _ (n : ℕ) (q : ℕ → Bool) (others : (i : ℕ) → (j : ℕ) × (j < 
     left_told : status n s'.table i ≡ status_told → Left xs s' i
     left_crashed : status n s'.table i ≡ status_crashed → has_crashed i xs ≡ true → Left xs s' i
 
-  module _ (w : ℕ) (s : State) (e : Entry) (ok : Accepted w n s.table) (z : entry_refusal n s e ≡ 0) (calm : Calm s.table)
+  module _ (w : Wiring) (s : State) (e : Entry) (ok : Accepted w n s.table) (z : entry_refusal n s e ≡ 0) (calm : Calm s.table)
       (quiet : (j : ℕ) → q j ≡ true → (late_of j (taken_at w n s e) ≡ false) × (crash_of j (taken_at w n s e) ≡ false)) where
     abbrev t' : List ℕ
     t' = (after w n s e).table

@@ -16,6 +16,7 @@ use Rattle.lists.proofs.BoolLaws.{by_bool, choice}
 use Rattle.lists.proofs.SearchLaws.{both, every-at}
 use Rattle.table.proofs.Accepting.{Accepted}
 use Rattle.table.proofs.CellLaws.{ClosingChanges, cell_same, cell_other}
+use Rattle.table.specs.declared.wiring.Wiring.{Wiring}
 use Rattle.plant.specs.Turn.{kind_turn, kind_late, leave_told, makes_test, replies, is_told, exchange_rows, suspect, reply_outcome, test_outcome}
 use Rattle.plant.specs.Turn.{after_outcome, self_or_suspected, is_alone, after_alone, after_test, testing, turn, turn_tested, crash}
 use Rattle.station.specs.Outcome.{outcome_exchanged, outcome_told, outcome_tested_told}
@@ -33,18 +34,18 @@ use Rattle.detection.proofs.Fates.{Fate, stays, leaves, hears, after-fate}
 use Rattle.accuracy.specs.Cause.{IsSuspected, late_of, crash_of}
 
 -- a cause in the table, or in the entry itself
-abbrev pub CauseAt : ℕ → ℕ → State → Entry → ℕ → Type 0
+abbrev pub CauseAt : Wiring → ℕ → State → Entry → ℕ → Type 0
 CauseAt w n s e x = IsSuspected n s.table x ⊎ (late_of x (taken_at w n s e) ≡ true)
 
 -- what became of station k, which was live: it is live; it crashed; it was told by a live one that suspected it; or it was the tester, and alone
-pub data Fared (w n : ℕ) (s : State) (e : Entry) (k : ℕ) : Type 0 where
+pub data Fared (w : Wiring) (n : ℕ) (s : State) (e : Entry) (k : ℕ) : Type 0 where
   lives : live n (after w n s e).table k ≡ true → Fared w n s e k
   crashed : crash_of k (taken_at w n s e) ≡ true → status n (after w n s e).table k ≡ status_crashed → Fared w n s e k
   told : status n (after w n s e).table k ≡ status_told → IsSuspected n s.table k → Fared w n s e k
   alone : k ≡ e.station → status n (after w n s e).table k ≡ status_alone
       → ((x : ℕ) → x < n → x ≢ k → suspects n (after w n s e).table k x ≡ 1) → Fared w n s e k
 
-module _ (w n : ℕ) (s : State) (e : Entry) (ok : Accepted w n s.table) (z : entry_refusal n s e ≡ 0) where
+module _ (w : Wiring) (n : ℕ) (s : State) (e : Entry) (ok : Accepted w n s.table) (z : entry_refusal n s e ≡ 0) where
   open parts_of w n s e use {before as t, tester as i, distance as m, tested as j, outcome as o, counted as u}
 
   abbrev t' : List ℕ

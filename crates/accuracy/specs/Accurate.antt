@@ -5,6 +5,7 @@ use Rattle.std.specs.Prelude.{◌≡◌, ◌≢◌, ◌⊎◌, ℕ, ◌+◌, ◌
 use Rattle.lists.specs.Sums.{sum_below, bit}
 use Rattle.table.specs.Table.{table_length, status, status_crashed, status_told, status_alone, told_by, live}
 use Rattle.table.specs.Properties.{live_count, none_suspected}
+use Rattle.table.specs.declared.wiring.Wiring.{Wiring}
 use Rattle.station.specs.Outcome.{outcome_told, outcome_tested_told}
 use Rattle.plant.specs.Entry.{State, outcome_of}
 use Rattle.detection.specs.Runs.{Call, Taken, after_runs, taken_all, table_after, is_late, crashes}
@@ -111,7 +112,7 @@ MixedAccurate =
 -- Rule Drives tell nobody: a drive has no late reply
 abbrev pub DrivesTellNobody : Type 0
 DrivesTellNobody =
-    (w n : ℕ) (s : State) (lasts : List ℕ) → length s.table ≡ table_length n → none_suspected n s.table ≡ true
+    (w : Wiring) (n : ℕ) (s : State) (lasts : List ℕ) → length s.table ≡ table_length n → none_suspected n s.table ≡ true
     → NobodyTold n s (runs_of_drives w n s lasts) (after_drives w n s lasts)
 
 -- the same of one run or drive, y, from `before` to `after`: wherever it stands behind others, what is claimed of the whole list with it holds

@@ -1,9 +1,9 @@
 -- One late reply, followed by hand: of eight stations the late one leaves, told by another than the one that tested it; of two both leave.
 -- Assumes nothing.
 use Rattle.std.specs.Prelude.{◌≡◌, ℕ, true, false, List, [], ◌∷◌}
-use Rattle.table.specs.Wiring.{wiring_cube, wiring_ring}
 use Rattle.table.specs.Table.{status, status_told, told_by}
 use Rattle.table.specs.Fresh.{fresh_table}
+use Rattle.table.specs.declared.wiring.Wiring.TheVariants.{Cube, Ring}
 use Rattle.plant.specs.Entry.{State, state_of}
 use Rattle.plant.specs.Run.{RunResult, run}
 use Rattle.detection.specs.Runs.{call_of, taken_in, is_late}
@@ -31,15 +31,15 @@ abbrev pub eight_stations : State
 eight_stations = state_of (fresh_table 8) 0 0
 
 abbrev pub followed : RunResult
-followed = run wiring_cube 8 eight_stations followed_schedule blank_of_four
+followed = run Cube 8 eight_stations followed_schedule blank_of_four
 
 -- Rule One of eight: 5 has left because told, by 7, and its own reply was late; that of 7 was not
 pub record OneOfEight : Type 0 where
   pub sheet : followed.sheet ≡ followed_sheet
   pub left : status 8 followed.state.table 5 ≡ status_told
   pub teller : told_by 8 followed.state.table 5 ≡ 7
-  pub late : was_late 5 (taken_in eight_stations (call_of wiring_cube 8 followed_schedule blank_of_four)) ≡ true
-  pub others : was_late 7 (taken_in eight_stations (call_of wiring_cube 8 followed_schedule blank_of_four)) ≡ false
+  pub late : was_late 5 (taken_in eight_stations (call_of Cube 8 followed_schedule blank_of_four)) ≡ true
+  pub others : was_late 7 (taken_in eight_stations (call_of Cube 8 followed_schedule blank_of_four)) ≡ false
 
 -- 0 tests 1, whose reply is late; then 1 tests 0
 abbrev pub late_schedule : List ℕ
@@ -67,7 +67,7 @@ two_left = record { number = 0; taken = 2; state = state_of late_table 0 2; shee
 
 -- Rule Two of two: one reply was late, that of 1, and nobody is live any more. So rule What a late reply costs asks for two more live stations
 pub record TwoOfTwo : Type 0 where
-  pub on_cube : run wiring_cube 2 two_stations late_schedule blank ≡ two_left
-  pub on_ring : run wiring_ring 2 two_stations late_schedule blank ≡ two_left
-  pub late : count_taken is_late (taken_in two_stations (call_of wiring_cube 2 late_schedule blank)) ≡ 1
-  pub whose : was_late 1 (taken_in two_stations (call_of wiring_cube 2 late_schedule blank)) ≡ true
+  pub on_cube : run Cube 2 two_stations late_schedule blank ≡ two_left
+  pub on_ring : run Ring 2 two_stations late_schedule blank ≡ two_left
+  pub late : count_taken is_late (taken_in two_stations (call_of Cube 2 late_schedule blank)) ≡ 1
+  pub whose : was_late 1 (taken_in two_stations (call_of Cube 2 late_schedule blank)) ≡ true

@@ -12,22 +12,17 @@ use Rattle.lists.proofs.SearchLaws.{both}
 use Rattle.table.specs.Sizes.{is_size}
 use Rattle.table.specs.Table.{stride, next_column, finished_column, tests_column}
 use Rattle.table.specs.declared.wiring.Wiring.{Wiring}
-use Rattle.table.specs.declared.wiring.Wiring.TheVariants.{Cube, Ring}
-use Rattle.table.specs.Wiring.{wiring_number, wiring_check, end_distance}
+use Rattle.table.specs.Wiring.{end_distance}
 use Rattle.table.proofs.CellLaws.{Pass, pass-facts}
 use Rattle.table.proofs.WiringLaws.{size-end}
 use Rattle.board.specs.Calls.{line_rules, place_check}
 
-wiring-number-ok : (x : Wiring) → wiring_check (wiring_number x) ≡ Ok tt
-wiring-number-ok Cube = refl
-wiring-number-ok Ring = refl
-
 -- a board of the plant, with a line of its length, is in its place
-pub place_ok : (x : Wiring) (n i len : ℕ) → is_size n ≡ true → i < n → len ≡ stride n → place_check (wiring_number x) n i len ≡ Ok tt
+pub place_ok : (x : Wiring) (n i len : ℕ) → is_size n ≡ true → i < n → len ≡ stride n → place_check x n i len ≡ Ok tt
 unfolding place_check
-place_ok x n i len size below long = rw (wiring-number-ok x, size, lt-ltb i n below, eq-eqb len (stride n) long) refl
+place_ok x n i len size below long = rw (size, lt-ltb i n below, eq-eqb len (stride n) long) refl
 
-line-pass : (w n i : ℕ) (l : List ℕ) → line_rules w n i l ≡ true
+line-pass : (w : Wiring) (n i : ℕ) (l : List ℕ) → line_rules w n i l ≡ true
     → Pass (end_distance w n) (get_or l next_column 0) (get_or l finished_column 0) (get_or l tests_column 0)
 unfolding line_rules
 line-pass w n i l e =
@@ -37,7 +32,7 @@ line-pass w n i l e =
     pass-facts _ _ _ _ c.1
 
 -- byte 3 has room for one more
-pub rules_tests : (w n i : ℕ) (l : List ℕ) → line_rules w n i l ≡ true → is_size n ≡ true → get_or l tests_column 0 < 255
+pub rules_tests : (w : Wiring) (n i : ℕ) (l : List ℕ) → line_rules w n i l ≡ true → is_size n ≡ true → get_or l tests_column 0 < 255
 rules_tests w n i l e size =
     let p = line-pass w n i l e in
     let end = size-end w n size in

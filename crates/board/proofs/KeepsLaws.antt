@@ -17,7 +17,7 @@ use Rattle.lists.proofs.BoolLaws.{by_bool}
 use Rattle.lists.proofs.SearchLaws.{both, every-at, every-all, list_of-length, list_of-at}
 use Rattle.lists.proofs.RefusalLaws.{ensure_ok, and_ok}
 use Rattle.table.specs.Sizes.{is_size}
-use Rattle.table.specs.Wiring.{wiring_check, end_distance}
+use Rattle.table.specs.Wiring.{end_distance}
 use Rattle.table.specs.Fresh.{fresh_byte}
 use Rattle.table.specs.Table.{head, stride, status_column, next_column, finished_column, tests_column, told_by_column, told_by_none}
 use Rattle.table.specs.Table.{rounds_ago_column, rounds_ago_top, status_told, status_alone}
@@ -36,14 +36,14 @@ use Rattle.board.specs.Board.{suspicion_of, next_of, tests, tested, pass_finishe
 use Rattle.board.specs.Board.{outcome_of, row_given, after_outcome, tested_at, turn_of, round_closed}
 use Rattle.board.specs.Packed.{heard}
 use Rattle.table.proofs.LineLaws.{row_of-length, row_of-at, with_row-length, with_row-head, with_row-in}
+use Rattle.table.specs.declared.wiring.Wiring.{Wiring}
 use Rattle.board.proofs.NextLaws.{next-low, next-station}
 use Rattle.board.proofs.PackedLaws.{any-bytes}
 use Rattle.board.specs.Keeps.{CallsKeepTheRules, FreshLineIsOne}
 use Rattle.board.specs.Calls.{line_rules, place_check, line_check, turn_check, replied_check, sent_check, exchanged_check, row_in}
 
 -- a line that is let through
-pub record Good (w n i : ℕ) (l : List ℕ) : Type 0 where
-  pub wired : wiring_check w ≡ Ok tt
+pub record Good (w : Wiring) (n i : ℕ) (l : List ℕ) : Type 0 where
   pub size : is_size n ≡ true
   pub below : i < n
   pub long : length l ≡ stride n
@@ -53,19 +53,17 @@ pub record Good (w n i : ℕ) (l : List ℕ) : Type 0 where
   pub own : get_or l (head + i) 0 ≡ 0
   pub range : (k : ℕ) → k < n → get_or l (head + k) 0 ≤ 1
 
-pub good : (w n i : ℕ) (l : List ℕ) → line_check w n i l ≡ Ok tt → Good w n i l
+pub good : (w : Wiring) (n i : ℕ) (l : List ℕ) → line_check w n i l ≡ Ok tt → Good w n i l
 unfolding line_check place_check line_rules
 good w n i l e =
     let z = and_ok _ _ tt e in
-    let p = and_ok _ _ tt z.0 in
-    let q = and_ok _ _ tt p.1 in
+    let q = and_ok _ _ tt z.0 in
     let r = and_ok _ _ tt q.1 in
     let a = both _ _ (ensure_ok _ _ _ z.1) in
     let b = both _ _ a.0 in
     let c = both _ _ b.0 in
     let d = both _ _ a.1 in
     record {
-      wired = p.0;
       size = ensure_ok _ _ _ q.0;
       below = ltb-true i n (ensure_ok _ _ _ r.0);
       long = eqb-true (length l) (stride n) (ensure_ok _ _ _ r.1);
@@ -76,11 +74,10 @@ good w n i l e =
       range = λ k h. leb-true (get_or l (head + k) 0) 1 (every-at (λ k. leb (suspicion_of l k) 1) n k d.1 h);
     }
 
-pub checked : (w n i : ℕ) (l : List ℕ) → Good w n i l → line_check w n i l ≡ Ok tt
+pub checked : (w : Wiring) (n i : ℕ) (l : List ℕ) → Good w n i l → line_check w n i l ≡ Ok tt
 unfolding line_check place_check line_rules
 checked w n i l g =
     rw (
-      g.wired,
       g.size,
       lt-ltb i n g.below,
       eq-eqb (length l) (stride n) g.long,
@@ -107,7 +104,7 @@ aged : (n i s by old : ℕ) → exit_rule n i s by old ≡ true → exit_rule n 
 unfolding exit_rule
 aged n i s by old e = by_bool (eqb s 0) (λ f. rw f (rw f at e)) (λ f. rw f (rw f at e))
 
-module _ (w n i : ℕ) (l : List ℕ) (g : Good w n i l) where
+module _ (w : Wiring) (n i : ℕ) (l : List ℕ) (g : Good w n i l) where
   -- a line that differs only in bytes 1 to 3, which keep their rules
   counts-kept : (l' : List ℕ) → length l' ≡ length l
       → ((k : ℕ) → k ≢ next_column → k ≢ finished_column → k ≢ tests_column → get_or l' k 0 ≡ get_or l k 0)
@@ -115,7 +112,6 @@ module _ (w n i : ℕ) (l : List ℕ) (g : Good w n i l) where
   counts-kept l' long same pass =
       let at : (k : ℕ) → k ≢ next_column → k ≢ finished_column → k ≢ tests_column → get_or l' k 0 ≡ get_or l k 0 = same in
       record {
-        wired = g.wired;
         size = g.size;
         below = g.below;
         long = long ∙ g.long;
@@ -183,7 +179,6 @@ module _ (w n i : ℕ) (l : List ℕ) (g : Good w n i l) where
       → Good w n i l'
   exit-kept l' long same s e low exits =
       record {
-        wired = g.wired;
         size = g.size;
         below = g.below;
         long = long ∙ g.long;
@@ -231,7 +226,6 @@ module _ (w n i : ℕ) (l : List ℕ) (g : Good w n i l) where
       → ((k : ℕ) → k < n → get_or l' (head + k) 0 ≤ 1) → Good w n i l'
   row-kept l' long same own range =
       record {
-        wired = g.wired;
         size = g.size;
         below = g.below;
         long = long ∙ g.long;
@@ -289,7 +283,6 @@ module _ (w n i : ℕ) (l : List ℕ) (g : Good w n i l) where
   pub close-good : Good w n i (round_closed l)
   unfolding round_closed
   close-good = record {
-    wired = g.wired;
     size = g.size;
     below = g.below;
     long = length-set l₃ rounds_ago_column ago ∙ long₃;
@@ -362,7 +355,7 @@ given-good n i j l None rows e = absurd (omega arith)
 given-good n i j l (Some r) rows e = rows r refl
 
 -- a turn, whatever was answered
-turn-good : (w n i : ℕ) (l : List ℕ) (reply : Option (List ℕ)) → Good w n i l → (get_or l finished_column 0 ≡ 1 → ⊥)
+turn-good : (w : Wiring) (n i : ℕ) (l : List ℕ) (reply : Option (List ℕ)) → Good w n i l → (get_or l finished_column 0 ≡ 1 → ⊥)
     → ((r : List ℕ) → reply ≡ Some r → GoodRow n r) → Good w n i (turn_of w n i l reply)
 unfolding turn_of tested_at tests after_outcome
 turn-good w n i l reply g going rows =
@@ -395,19 +388,19 @@ turn-good w n i l reply g going rows =
         (λ d. rw (a, b, d) (suspect-good w n i c gc j (λ e. apart (sym e)))))))
 
 -- a call leaves what was there or what it makes
-unless-good : (w n i : ℕ) (c : Check) (l l' : List ℕ) → Good w n i l → (c ≡ Ok tt → Good w n i l') → Good w n i (unless_refused c l l')
+unless-good : (w : Wiring) (n i : ℕ) (c : Check) (l l' : List ℕ) → Good w n i l → (c ≡ Ok tt → Good w n i l') → Good w n i (unless_refused c l l')
 unless-good w n i (Ok x) l l' g f = f refl
 unless-good w n i (Err r) l l' g f = g
 
-turn-going : (w n i : ℕ) (l : List ℕ) → turn_check w n i l ≡ Ok tt → get_or l finished_column 0 ≡ 1 → ⊥
+turn-going : (w : Wiring) (n i : ℕ) (l : List ℕ) → turn_check w n i l ≡ Ok tt → get_or l finished_column 0 ≡ 1 → ⊥
 unfolding turn_check
 turn-going w n i l e = eqb-false (get_or l finished_column 0) 1 (not-true _ (ensure_ok _ _ _ (and_ok _ _ tt e).1))
 
-replied-turn : (w n i : ℕ) (l : List ℕ) (len : ℕ) → replied_check w n i l len ≡ Ok tt → turn_check w n i l ≡ Ok tt
+replied-turn : (w : Wiring) (n i : ℕ) (l : List ℕ) (len : ℕ) → replied_check w n i l len ≡ Ok tt → turn_check w n i l ≡ Ok tt
 unfolding replied_check
 replied-turn w n i l len e = (and_ok _ _ tt e).0
 
-sent-facts : (w n i : ℕ) (l : List ℕ) (b : ℕ) → sent_check w n i l b ≡ Ok tt → (b < n) × (b ≢ i)
+sent-facts : (w : Wiring) (n i : ℕ) (l : List ℕ) (b : ℕ) → sent_check w n i l b ≡ Ok tt → (b < n) × (b ≢ i)
 unfolding sent_check
 sent-facts w n i l b e =
     let p = and_ok _ _ tt e in
@@ -426,7 +419,7 @@ calls-keep w n i l z =
           (unless-good w n i (replied_check w n i l (length p)) l (turn_of w n i l (row_in w n i l p)) g
           (λ e. turn-good w n i l (row_in w n i l p) g (turn-going w n i l (replied-turn w n i l (length p) e))
           (λ r q. same-good n (tested w n i l) p r q)));
-      silent = checked w n i _
+      not_replied = checked w n i _
           (unless-good w n i (turn_check w n i l) l (turn_of w n i l None) g
           (λ e. turn-good w n i l None g (turn-going w n i l e) (λ r q. absurd (none-some r q))));
       told = λ b. checked w n i _
@@ -457,15 +450,13 @@ fresh-row n k h =
     fresh-at n (head + k) 0 (omega arith)
     (rw (ne_eqb (head + k) next_column (λ e. omega arith), ne_eqb (head + k) told_by_column (λ e. omega arith)) refl)
 
-fresh-good : (w n i len : ℕ) → place_check w n i len ≡ Ok tt → Good w n i (fresh_line n)
+fresh-good : (w : Wiring) (n i len : ℕ) → place_check w n i len ≡ Ok tt → Good w n i (fresh_line n)
 unfolding place_check exit_rule
 fresh-good w n i len e =
-    let p = and_ok _ _ tt e in
-    let q = and_ok _ _ tt p.1 in
+    let q = and_ok _ _ tt e in
     let r = and_ok _ _ tt q.1 in
     let below : i < n = ltb-true i n (ensure_ok _ _ _ r.0) in
     record {
-      wired = p.0;
       size = ensure_ok _ _ _ q.0;
       below = below;
       long = list_of-length (fresh_byte n) (stride n);

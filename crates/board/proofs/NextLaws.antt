@@ -10,11 +10,12 @@ use Rattle.table.specs.Table.{stride, next_column}
 use Rattle.table.specs.Wiring.{end_distance}
 use Rattle.table.specs.Line.{row_of}
 use Rattle.table.proofs.LineLaws.{row_of-length}
+use Rattle.table.specs.declared.wiring.Wiring.{Wiring}
 use Rattle.station.specs.Wired.{wired_station, wired_due}
 use Rattle.station.proofs.WiredLaws.{station-present}
 use Rattle.board.specs.Board.{next_of}
 
-module _ (w n i : ℕ) (l : List ℕ) where
+module _ (w : Wiring) (n i : ℕ) (l : List ℕ) where
   abbrev next : ℕ
   next = get_or l next_column 0
 

@@ -1,10 +1,11 @@
--- What one board makes of its own line, and of what other boards send. w is the wiring's number, n the size of the plant, i the board's own number,
+-- What one board makes of its own line, and of what other boards send. w is the wiring, n the size of the plant, i the board's own number,
 -- l its line. The rules are those of a line of the table (station's Step and Rows).
 -- Assumes nothing.
 use Rattle.std.specs.Prelude.{ℕ, ◌+◌, Bool, ◌&&◌, List, [], set, Option, None, Some, if◌then◌else◌, ◌==◌, nat_lt, slice_index}
 use Rattle.table.specs.Wiring.{end_distance}
 use Rattle.table.specs.Table.{head, status_column, next_column, tests_column, rounds_ago_column, status_alone}
 use Rattle.table.specs.Line.{row_of, with_row, write_bytes, is_live}
+use Rattle.table.specs.declared.wiring.Wiring.{Wiring}
 use Rattle.station.specs.Wired.{wired_station, next_due}
 use Rattle.station.specs.Outcome.{no_station, outcome_finished, outcome_exchanged, outcome_no_reply, outcome_tested_told}
 use Rattle.station.specs.Rows.{union, mark, suspects_all}
@@ -15,27 +16,27 @@ abbrev pub suspicion_of : List ℕ → ℕ → ℕ
 suspicion_of l k = slice_index l (head + k)
 
 -- Rules Next test of the cube and Next test of the ring: the distance of the next test; the end distance where there is none
-unfoldable pub next_of : ℕ → ℕ → ℕ → List ℕ → ℕ
+unfoldable pub next_of : Wiring → ℕ → ℕ → List ℕ → ℕ
 next_of w n i l = next_due w n (row_of n l) i (slice_index l next_column)
 
 -- whether there is one
-unfoldable pub tests : ℕ → ℕ → ℕ → List ℕ → Bool
+unfoldable pub tests : Wiring → ℕ → ℕ → List ℕ → Bool
 tests w n i l = nat_lt (next_of w n i l) (end_distance w n)
 
 -- the board that the next test is of, or 255
-unfoldable pub tested : ℕ → ℕ → ℕ → List ℕ → ℕ
+unfoldable pub tested : Wiring → ℕ → ℕ → List ℕ → ℕ
 tested w n i l = if tests w n i l then wired_station w n i (next_of w n i l) else no_station
 
 -- the same as an option
-unfoldable pub next_station : ℕ → ℕ → ℕ → List ℕ → Option ℕ
+unfoldable pub next_station : Wiring → ℕ → ℕ → List ℕ → Option ℕ
 next_station w n i l = if tests w n i l then Some (wired_station w n i (next_of w n i l)) else None
 
 -- Rule End of a pass
-unfoldable pub pass_finished : ℕ → ℕ → List ℕ → List ℕ
+unfoldable pub pass_finished : Wiring → ℕ → List ℕ → List ℕ
 pass_finished w n l = write_bytes l (finish_writes w n)
 
 -- Rule Count the test, at distance m and by its outcome
-unfoldable pub counted : ℕ → ℕ → List ℕ → ℕ → ℕ → List ℕ
+unfoldable pub counted : Wiring → ℕ → List ℕ → ℕ → ℕ → List ℕ
 counted w n l m outcome = write_bytes l (count_writes w n m outcome (slice_index l tests_column))
 
 -- Rules Tester told and Tested told: the board leaves because b told it
@@ -73,11 +74,11 @@ unfoldable pub after_outcome : ℕ → ℕ → ℕ → List ℕ → List ℕ →
 after_outcome n i j l r outcome = by_outcome outcome (left_told l j) l (joined n i l r) (suspecting n l j)
 
 -- the line after a test of the board at distance m: Count the test, what the outcome does, then Alone
-unfoldable pub tested_at : ℕ → ℕ → ℕ → List ℕ → List ℕ → ℕ → ℕ → ℕ → List ℕ
+unfoldable pub tested_at : Wiring → ℕ → ℕ → List ℕ → List ℕ → ℕ → ℕ → ℕ → List ℕ
 tested_at w n i l r m j outcome = after_alone n i (after_outcome n i j (counted w n l m outcome) r outcome)
 
 -- the board's turn, with what was answered to its test: the line that it leaves
-unfoldable pub turn_of : ℕ → ℕ → ℕ → List ℕ → Option (List ℕ) → List ℕ
+unfoldable pub turn_of : Wiring → ℕ → ℕ → List ℕ → Option (List ℕ) → List ℕ
 turn_of w n i l reply =
     if tests w n i l
     then (let m = next_of w n i l in
@@ -86,7 +87,7 @@ turn_of w n i l reply =
     else pass_finished w n l
 
 -- and its outcome
-unfoldable pub outcome : ℕ → ℕ → ℕ → List ℕ → Option (List ℕ) → ℕ
+unfoldable pub outcome : Wiring → ℕ → ℕ → List ℕ → Option (List ℕ) → ℕ
 outcome w n i l reply = if tests w n i l then outcome_of i (wired_station w n i (next_of w n i l)) l reply else outcome_finished
 
 -- what a tester sends to the board that it tested, after the reply
@@ -100,7 +101,7 @@ unfoldable pub message : List ℕ → ℕ → Message
 message r outcome =
     if outcome == outcome_tested_told then told else (if outcome == outcome_exchanged then exchange r else nothing)
 
-abbrev pub sent : ℕ → ℕ → ℕ → List ℕ → Option (List ℕ) → Message
+abbrev pub sent : Wiring → ℕ → ℕ → List ℕ → Option (List ℕ) → Message
 sent w n i l reply = message (row_of n l) (outcome w n i l reply)
 
 -- what board j makes of its line when that comes from board i

@@ -4,7 +4,6 @@ ghost use Rattle.table.specs.Fresh.{fresh_byte};
 ghost use Rattle.lists.specs.Search.{list_of};
 ghost use Rattle.table.specs.Line.{row_of};
 ghost use Rattle.table.specs.Table.{stride, tests_column};
-ghost use Rattle.table.specs.Wiring.{wiring_number};
 ghost use Rattle.station.specs.Outcome.{tested_byte, outcome_byte};
 ghost use Rattle.board.specs.Board.{next_of, next_station, tested, pass_finished, counted, left_told, joined, suspecting, alone, after_alone};
 ghost use Rattle.board.specs.Board.{outcome_of, after_outcome, tested_at, turn_of, outcome, round_closed};
@@ -75,8 +74,7 @@ impl Board {
     #[tactic(auto, unfolding(crate::specs::Board::next_of))]
     fn next_test(self, line: &[u8]) -> Distance
         requires { length line.now ≡ stride self.wired.n }
-        ensures { let w = wiring_number self.wired.wiring in
-            result.0 ≡ next_of w self.wired.n self.own.0 line.now }
+        ensures { result.0 ≡ next_of self.wired.wiring self.wired.n self.own.0 line.now }
     {
         self.wired
             .next_due(self.row(line), self.own, Distance(line[NEXT]))
@@ -87,7 +85,7 @@ impl Board {
     pub(crate) fn next(self, line: &[u8]) -> Option<Station>
         requires { length line.now ≡ stride self.wired.n }
         ensures { option_map (λ x. x.0) result
-            ≡ next_station (wiring_number self.wired.wiring) self.wired.n self.own.0 line.now }
+            ≡ next_station self.wired.wiring self.wired.n self.own.0 line.now }
     {
         let m = self.next_test(line);
         if self.wired.end <= m.0 {
@@ -101,12 +99,10 @@ impl Board {
     pub(crate) fn replied(self, line: &mut [u8], packed: &[u8]) -> Outcome
         requires fits { length line.old ≡ stride self.wired.n }
         requires tests_fit { slice_index line.old tests_column < 255 }
-        ensures outcome_number { let w = wiring_number self.wired.wiring in
-            let reply = row_in w self.wired.n self.own.0 line.old packed.now in
-            outcome_byte result ≡ outcome w self.wired.n self.own.0 line.old reply }
-        ensures turn_made { let w = wiring_number self.wired.wiring in
-            let reply = row_in w self.wired.n self.own.0 line.old packed.now in
-            line.new ≡ turn_of w self.wired.n self.own.0 line.old reply }
+        ensures outcome_number { let reply = row_in self.wired.wiring self.wired.n self.own.0 line.old packed.now in
+            outcome_byte result ≡ outcome self.wired.wiring self.wired.n self.own.0 line.old reply }
+        ensures turn_made { let reply = row_in self.wired.wiring self.wired.n self.own.0 line.old packed.now in
+            line.new ≡ turn_of self.wired.wiring self.wired.n self.own.0 line.old reply }
     {
         let m = self.next_test(line);
         if self.wired.end <= m.0 {
@@ -129,10 +125,10 @@ impl Board {
     pub(crate) fn not_replied(self, line: &mut [u8]) -> Outcome
         requires fits { length line.old ≡ stride self.wired.n }
         requires tests_fit { slice_index line.old tests_column < 255 }
-        ensures outcome_number { let w = wiring_number self.wired.wiring in
-            outcome_byte result ≡ outcome w self.wired.n self.own.0 line.old None }
-        ensures turn_made { let w = wiring_number self.wired.wiring in
-            line.new ≡ turn_of w self.wired.n self.own.0 line.old None }
+        ensures outcome_number { outcome_byte result
+            ≡ outcome self.wired.wiring self.wired.n self.own.0 line.old None }
+        ensures turn_made { line.new
+            ≡ turn_of self.wired.wiring self.wired.n self.own.0 line.old None }
     {
         let m = self.next_test(line);
         if self.wired.end <= m.0 {
@@ -152,7 +148,7 @@ impl Board {
     fn finish_pass(self, line: &mut [u8])
         requires { length line.old ≡ stride self.wired.n }
         ensures { line.new
-            ≡ pass_finished (wiring_number self.wired.wiring) self.wired.n line.old }
+            ≡ pass_finished self.wired.wiring self.wired.n line.old }
     {
         line[NEXT] = self.wired.end;
         line[FINISHED] = 1;
@@ -184,8 +180,8 @@ impl Board {
         requires fits { length line.old ≡ stride self.wired.n }
         requires tests_fit { slice_index line.old tests_column < 255 }
         requires distance_fits { m.0 < 255 }
-        ensures { let w = wiring_number self.wired.wiring in
-            line.new ≡ counted w self.wired.n line.old m.0 (outcome_byte outcome) }
+        ensures { line.new
+            ≡ counted self.wired.wiring self.wired.n line.old m.0 (outcome_byte outcome) }
     {
         let tests = line[TESTS];
         line[NEXT] = self.wired.next_after(m, outcome);

@@ -11,9 +11,10 @@ use crate::packed::{self, Heard};
 use lists::refusal::Refusal;
 use station::outcome::Outcome;
 use table::Station;
+use table::wiring::Wiring;
 
 // The line becomes a line of a fresh table.
-pub fn fresh(wiring: usize, n: usize, own: Station, line: &mut [u8]) -> Result<(), Refusal>
+pub fn fresh(wiring: Wiring, n: usize, own: Station, line: &mut [u8]) -> Result<(), Refusal>
     ensures check { result ≡ place_check wiring n own.0 (length line.old) }
     ensures line_after { line.new ≡ fresh_after wiring n own.0 line.old }
 {
@@ -24,7 +25,7 @@ pub fn fresh(wiring: usize, n: usize, own: Station, line: &mut [u8]) -> Result<(
 
 // Whom the board tests next; nobody where its pass is at its end.
 #[tactic(auto, unfolding(crate::specs::Calls::turn_check, crate::specs::Calls::live_check, crate::specs::Calls::line_check))]
-pub fn next(wiring: usize, n: usize, own: Station, line: &[u8]) -> Result<Option<Station>, Refusal>
+pub fn next(wiring: Wiring, n: usize, own: Station, line: &[u8]) -> Result<Option<Station>, Refusal>
     ensures { result_map_both (λ o. option_map (λ x. x.0) o) (λ r. r) result
         ≡ next_answer wiring n own.0 line.now }
 {
@@ -36,7 +37,7 @@ pub fn next(wiring: usize, n: usize, own: Station, line: &[u8]) -> Result<Option
 // The board's row, packed: what it answers to a test, and what it sends as an exchange after its own turn.
 #[tactic(auto, using(table::proofs::SizeLaws::size_top), unfolding(crate::specs::Calls::row_check, crate::specs::Calls::live_check, crate::specs::Calls::line_check))]
 pub fn row(
-    wiring: usize,
+    wiring: Wiring,
     n: usize,
     own: Station,
     line: &[u8],
@@ -55,7 +56,7 @@ pub fn row(
 // The board's turn, with the reply of the board that it tests: that one's row, packed.
 #[tactic(auto, unfolding(crate::specs::Calls::replied_check, crate::specs::Calls::turn_check, crate::specs::Calls::live_check, crate::specs::Calls::line_check))]
 pub fn replied(
-    wiring: usize,
+    wiring: Wiring,
     n: usize,
     own: Station,
     line: &mut [u8],
@@ -74,7 +75,7 @@ pub fn replied(
 // The board's turn where no reply comes in time.
 #[tactic(auto, unfolding(crate::specs::Calls::turn_check, crate::specs::Calls::live_check, crate::specs::Calls::line_check))]
 pub fn not_replied(
-    wiring: usize,
+    wiring: Wiring,
     n: usize,
     own: Station,
     line: &mut [u8],
@@ -91,7 +92,7 @@ pub fn not_replied(
 // Board `by`, which tested this one, tells it to leave.
 #[tactic(auto, unfolding(crate::specs::Calls::sent_check, crate::specs::Calls::live_check, crate::specs::Calls::line_check))]
 pub fn told(
-    wiring: usize,
+    wiring: Wiring,
     n: usize,
     own: Station,
     line: &mut [u8],
@@ -109,7 +110,7 @@ pub fn told(
 // Board `from`, which tested this one, sends its row, packed.
 #[tactic(auto, using(table::proofs::SizeLaws::size_top), unfolding(crate::specs::Calls::exchanged_check, crate::specs::Calls::sent_check, crate::specs::Calls::live_check, crate::specs::Calls::line_check))]
 pub fn exchanged(
-    wiring: usize,
+    wiring: Wiring,
     n: usize,
     own: Station,
     line: &mut [u8],
@@ -129,7 +130,7 @@ pub fn exchanged(
 
 // The round is closed.
 #[tactic(auto, unfolding(crate::specs::Calls::line_check))]
-pub fn round_closed(wiring: usize, n: usize, own: Station, line: &mut [u8]) -> Result<(), Refusal>
+pub fn round_closed(wiring: Wiring, n: usize, own: Station, line: &mut [u8]) -> Result<(), Refusal>
     ensures check { result ≡ line_check wiring n own.0 line.old }
     ensures line_after { line.new ≡ closed_after wiring n own.0 line.old }
 {

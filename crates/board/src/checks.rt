@@ -3,7 +3,6 @@ ghost use Rattle.std.specs.Prelude.{◌≡◌, ◌<◌, length, IfOk, slice_inde
 ghost use Rattle.std.specs.Result.{result_map_both};
 ghost use Rattle.table.specs.Rules.{row_rule_by, length_check};
 ghost use Rattle.table.specs.Table.{stride, tests_column};
-ghost use Rattle.table.specs.Wiring.{wiring_number};
 ghost use Rattle.board.specs.Packed.{packed_length};
 ghost use Rattle.board.specs.Calls.{line_rules, place_check, line_check, live_check, turn_check, sent_check};
 
@@ -15,22 +14,21 @@ use table::wiring::Wiring;
 use table::{Station, rules, sizes};
 
 impl Board {
-    // A board whose line has this length: refusals 24, 1, 9 and 25.
-    #[tactic(auto, using(table::proofs::SizeLaws::size_top, table::proofs::WiringLaws::wiring_ok, table::proofs::WiringLaws::wiring_err), unfolding(crate::specs::Calls::place_check))]
+    // A board whose line has this length: refusals 1, 9 and 25.
+    #[tactic(auto, using(table::proofs::SizeLaws::size_top), unfolding(crate::specs::Calls::place_check))]
     pub(crate) fn checked(
-        wiring: usize,
+        wiring: Wiring,
         n: usize,
         own: Station,
         len: usize,
     ) -> Result<Board, Refusal>
         ensures check { result_map_both (λ b. tt) (λ r. r) result
             ≡ place_check wiring n own.0 len }
-        ensures same_wiring { IfOk result (λ b. wiring_number b.wired.wiring ≡ wiring) }
+        ensures same_wiring { IfOk result (λ b. b.wired.wiring ≡ wiring) }
         ensures same_size { IfOk result (λ b. b.wired.n ≡ n) }
         ensures same_number { IfOk result (λ b. b.own ≡ own) }
         ensures line_fits { IfOk result (λ b. len ≡ stride b.wired.n) }
     {
-        let wiring = Wiring::try_from(wiring)?;
         if !sizes::is_size(n) {
             return Err(Refusal::SizeOutOfRange);
         }
@@ -49,8 +47,7 @@ impl Board {
     #[tactic(auto, using(crate::proofs::CallLaws::place_ok, crate::proofs::CallLaws::rules_tests), unfolding(crate::specs::Calls::line_check))]
     pub(crate) fn check_line(self, line: &[u8]) -> Result<(), Refusal>
         requires { length line.now ≡ stride self.wired.n }
-        ensures check { let w = wiring_number self.wired.wiring in
-            result ≡ line_check w self.wired.n self.own.0 line.now }
+        ensures check { result ≡ line_check self.wired.wiring self.wired.n self.own.0 line.now }
         ensures tests_fit { IfOk result (λ u. slice_index line.now tests_column < 255) }
     {
         if !self.keeps_line_rules(line) {
@@ -63,8 +60,7 @@ impl Board {
     #[tactic(auto, unfolding(crate::specs::Calls::live_check))]
     pub(crate) fn check_live(self, line: &[u8]) -> Result<(), Refusal>
         requires { length line.now ≡ stride self.wired.n }
-        ensures check { let w = wiring_number self.wired.wiring in
-            result ≡ live_check w self.wired.n self.own.0 line.now }
+        ensures check { result ≡ live_check self.wired.wiring self.wired.n self.own.0 line.now }
         ensures tests_fit { IfOk result (λ u. slice_index line.now tests_column < 255) }
     {
         self.check_line(line)?;
@@ -78,8 +74,7 @@ impl Board {
     #[tactic(auto, unfolding(crate::specs::Calls::turn_check))]
     pub(crate) fn check_turn(self, line: &[u8]) -> Result<(), Refusal>
         requires { length line.now ≡ stride self.wired.n }
-        ensures check { let w = wiring_number self.wired.wiring in
-            result ≡ turn_check w self.wired.n self.own.0 line.now }
+        ensures check { result ≡ turn_check self.wired.wiring self.wired.n self.own.0 line.now }
         ensures tests_fit { IfOk result (λ u. slice_index line.now tests_column < 255) }
     {
         self.check_live(line)?;
@@ -93,8 +88,7 @@ impl Board {
     #[tactic(auto, unfolding(crate::specs::Calls::sent_check))]
     pub(crate) fn check_sent(self, line: &[u8], from: Station) -> Result<(), Refusal>
         requires { length line.now ≡ stride self.wired.n }
-        ensures { let w = wiring_number self.wired.wiring in
-            result ≡ sent_check w self.wired.n self.own.0 line.now from.0 }
+        ensures { result ≡ sent_check self.wired.wiring self.wired.n self.own.0 line.now from.0 }
     {
         self.check_live(line)?;
         if self.wired.n <= from.0 {
@@ -120,8 +114,7 @@ impl Board {
     #[tactic(auto, using(table::proofs::StatusLaws::status_ok, table::proofs::StatusLaws::status_err, crate::proofs::RowLaws::row_rule_by_row), unfolding(crate::specs::Calls::line_rules))]
     fn keeps_line_rules(self, line: &[u8]) -> bool
         requires { length line.now ≡ stride self.wired.n }
-        ensures { let w = wiring_number self.wired.wiring in
-            result ≡ line_rules w self.wired.n self.own.0 line.now }
+        ensures { result ≡ line_rules self.wired.wiring self.wired.n self.own.0 line.now }
     {
         let Ok(status) = Status::try_from(line[board::STATUS]) else {
             return false;

@@ -13,8 +13,9 @@ use Rattle.lists.specs.Sums.{bit}
 use Rattle.lists.proofs.RefusalLaws.{check_zero}
 use Rattle.table.specs.Table.{head, live}
 use Rattle.table.specs.Line.{line, is_live}
-use Rattle.table.specs.Rules.{numbered_table_check}
+use Rattle.table.specs.Rules.{table_check}
 use Rattle.table.proofs.LineLaws.{line_at}
+use Rattle.table.specs.declared.wiring.Wiring.{Wiring}
 use Rattle.plant.specs.Entry.{Entry, State, state_of, tally_top}
 use Rattle.plant.specs.Run.{entries, start_check, start_refusal, go_on, run}
 use Rattle.plant.proofs.RunLaws.{accepted-number}
@@ -45,7 +46,7 @@ unfolding bytes_of
 even-bytes [] = refl
 even-bytes (e ∷ es) = omega (arith, even-bytes es)
 
-module _ (w n : ℕ) (b : Lines) (es : List Entry) (begin : BoardsBegin w n b) (turns : TurnsInTime w n b es) where
+module _ (w : Wiring) (n : ℕ) (b : Lines) (es : List Entry) (begin : BoardsBegin w n b) (turns : TurnsInTime w n b es) where
   abbrev t : List ℕ
   t = table_of n b
 
@@ -80,7 +81,7 @@ module _ (w n : ℕ) (b : Lines) (es : List Entry) (begin : BoardsBegin w n b) (
   starts : start_refusal w n t (length (bytes_of es)) (length sheet) ≡ 0
   unfolding start_check
   starts =
-      let check = check_zero (numbered_table_check w n t) (accepted-number w n t (ok w n b begin)) in
+      let check = check_zero (table_check w n t) (accepted-number w n t (ok w n b begin)) in
       let even : length (bytes_of es) % 2 ≡ 0 = omega (arith, even-bytes es) in
       rw (check, even, eq-eqb (length sheet) (2 * length (bytes_of es)) (length-replicate (2 * length (bytes_of es)) 0))
 
@@ -94,7 +95,6 @@ module _ (w n : ℕ) (b : Lines) (es : List Entry) (begin : BoardsBegin w n b) (
 
   premises : DetectionPremises w n s calls
   premises = record {
-    wiring = (ok w n b begin).wired;
     size = (ok w n b begin).size;
     long = (ok w n b begin).long;
     start = start w n b begin;
@@ -153,7 +153,7 @@ module _ (w n : ℕ) (b : Lines) (es : List Entry) (begin : BoardsBegin w n b) (
     }
 
 -- the claim, within any number of rounds within which detection's holds
-boards-detect : (rounds : ℕ → ℕ → ℕ) → Detection rounds → BoardsDetect rounds
+boards-detect : (rounds : Wiring → ℕ → ℕ) → Detection rounds → BoardsDetect rounds
 boards-detect rounds claim w n b es begin turns =
     carried w n b es begin turns (rounds w n) (claim w n (s w n b es begin turns) (calls w n b es begin turns) (premises w n b es begin turns))
 

@@ -20,9 +20,10 @@ use Rattle.plant.specs.Entry.{Entry}
 use Rattle.plant.proofs.WholeRun.{whole_run}
 use Rattle.lists.specs.Search.{list_of}
 use Rattle.lists.specs.Sums.{sum_below}
-use Rattle.table.specs.Wiring.{wiring_cube, wiring_ring}
 use Rattle.table.specs.Fresh.{fresh_byte}
 use Rattle.table.specs.Line.{row_of, with_row}
+use Rattle.table.specs.declared.wiring.Wiring.{Wiring}
+use Rattle.table.specs.declared.wiring.Wiring.TheVariants.{Cube, Ring}
 use Rattle.board.specs.Board.{suspicion_of, next_of, tests, tested, next_station, pass_finished, counted, left_told, joined, suspecting, alone}
 use Rattle.board.specs.Board.{after_alone, outcome_of, after_outcome, tested_at, turn_of, outcome, round_closed}
 use Rattle.board.specs.Packed.{bits, packed_byte, pack, heard_byte, heard}
@@ -37,12 +38,12 @@ passed (Ok x) e = refl
 passed (Err r) e = cc
 
 -- each entry is a turn whose reply comes in time, and no call of its board refuses it
-unfoldable all_turns : ℕ → ℕ → Lines → List Entry → Bool
+unfoldable all_turns : Wiring → ℕ → Lines → List Entry → Bool
 all_turns w n b [] = true
 all_turns w n b (e ∷ es) = (eqb e.kind kind_turn && is_ok (turn_check w n e.station (b e.station))) && all_turns w n (after_entry w n b e) es
 
 -- an entry of such a list, behind those before it
-nth-in-time : (w n : ℕ) (b : Lines) (before : List Entry) (e : Entry) (rest : List Entry) → all_turns w n b (before ++ (e ∷ rest)) ≡ true
+nth-in-time : (w : Wiring) (n : ℕ) (b : Lines) (before : List Entry) (e : Entry) (rest : List Entry) → all_turns w n b (before ++ (e ∷ rest)) ≡ true
     → TurnInTime w n (after_entries w n b before) e
 unfolding all_turns after_entries
 nth-in-time w n b [] e rest t =
@@ -51,7 +52,7 @@ nth-in-time w n b [] e rest t =
     record { kind = inl kind; taken = passed _ p.1; no_late = λ late. absurd (omega (arith, kind)) }
 nth-in-time w n b (f ∷ before) e rest t = nth-in-time w n (after_entry w n b f) before e rest (both _ _ t).1
 
-all-in-time : (w n : ℕ) (b : Lines) (es : List Entry) → all_turns w n b es ≡ true → TurnsInTime w n b es
+all-in-time : (w : Wiring) (n : ℕ) (b : Lines) (es : List Entry) → all_turns w n b es ≡ true → TurnsInTime w n b es
 all-in-time w n b es t before e rest p = nth-in-time w n b before e rest (rw p at t)
 
 -- what holds of 0 to 3
@@ -71,7 +72,7 @@ unfolding whole_run all_but turns_of all_turns live_boards count_of_tests sum_be
 whole_cable = tt
 
 -- four boards with fresh lines, of which one has crashed
-module _ (w x : ℕ) where
+module _ (w : Wiring) (x : ℕ) where
   abbrev b : Lines
   b = all_but 4 x
 
@@ -100,8 +101,8 @@ module _ (w x : ℕ) where
 pub four-boards : FourBoards
 unfolding whole_cable
 four-boards = record {
-  begin = four-begin wiring_cube 3 (below-four (λ k. line_check wiring_cube 4 k (all_but 4 3 k) ≡ Ok tt) refl refl refl refl) refl;
-  in_time = all-in-time wiring_cube 4 (all_but 4 3) (turns_of cube_turns) refl;
+  begin = four-begin Cube 3 (below-four (λ k. line_check Cube 4 k (all_but 4 3 k) ≡ Ok tt) refl refl refl refl) refl;
+  in_time = all-in-time Cube 4 (all_but 4 3) (turns_of cube_turns) refl;
   tests_are = refl;
   counted = refl;
 }
@@ -109,8 +110,8 @@ four-boards = record {
 pub four-on-ring : FourOnRing
 unfolding whole_cable
 four-on-ring = record {
-  begin = four-begin wiring_ring 1 (below-four (λ k. line_check wiring_ring 4 k (all_but 4 1 k) ≡ Ok tt) refl refl refl refl) refl;
-  in_time = all-in-time wiring_ring 4 (all_but 4 1) (turns_of ring_turns) refl;
+  begin = four-begin Ring 1 (below-four (λ k. line_check Ring 4 k (all_but 4 1 k) ≡ Ok tt) refl refl refl refl) refl;
+  in_time = all-in-time Ring 4 (all_but 4 1) (turns_of ring_turns) refl;
   tests_are = refl;
   counted = refl;
 }

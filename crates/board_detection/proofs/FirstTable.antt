@@ -18,6 +18,7 @@ use Rattle.table.specs.Line.{line, is_live}
 use Rattle.table.specs.Properties.{line_at_start, at_start, live_count, no_live_suspicion, none_suspected}
 use Rattle.table.proofs.Accepting.{Accepted, accepted}
 use Rattle.table.proofs.LineLaws.{line_at}
+use Rattle.table.specs.declared.wiring.Wiring.{Wiring}
 use Rattle.station.specs.Groups.{width, member}
 use Rattle.plant.proofs.RoundLaws.{Reset}
 use Rattle.plant.proofs.RulesKept.{unfinished-open}
@@ -28,7 +29,7 @@ use Rattle.cable.proofs.HoldLaws.{live-same, over-same}
 use Rattle.cable.proofs.TableOf.{table-line, boards-make-a-table}
 use Rattle.board_detection.specs.Detect.{live_boards, BoardsBegin, count_of_tests}
 
-module _ (w n : ℕ) (b : Lines) (begin : BoardsBegin w n b) where
+module _ (w : Wiring) (n : ℕ) (b : Lines) (begin : BoardsBegin w n b) where
   abbrev t : List ℕ
   t = table_of n b
 

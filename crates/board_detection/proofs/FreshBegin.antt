@@ -15,6 +15,7 @@ use Rattle.table.specs.Fresh.{fresh_table}
 use Rattle.table.specs.Properties.{at_start, live_count, none_suspected}
 use Rattle.table.proofs.Accepting.{Accepted, accepted}
 use Rattle.table.proofs.LineLaws.{line_at}
+use Rattle.table.specs.declared.wiring.Wiring.{Wiring}
 use Rattle.plant.proofs.RunLaws.{accepted-number}
 use Rattle.detection.proofs.DetectionClaim.{trusts, first_round}
 use Rattle.detection.proofs.FreshStart.{fresh-accepted, fresh-premises}
@@ -25,7 +26,7 @@ use Rattle.cable.proofs.LineFacts.{lines-of-tables}
 use Rattle.cable.proofs.FreshLines.{fresh-boards}
 use Rattle.board_detection.specs.Detect.{live_boards, BoardsBegin, FreshBoardsBegin}
 
-module _ (w n : ℕ) (t : List ℕ) (ok : Accepted w n t) (start : at_start n t ≡ true) (two : 2 ≤ live_count n t)
+module _ (w : Wiring) (n : ℕ) (t : List ℕ) (ok : Accepted w n t) (start : at_start n t ≡ true) (two : 2 ≤ live_count n t)
     (none : none_suspected n t ≡ true) (b : Lines) (same : (k : ℕ) → k < n → b k ≡ line n t k) where
   byte : (k c : ℕ) → k < n → c < stride n → get_or (b k) c 0 ≡ cell n t k c
   byte k c h hc = ap (λ (l : List ℕ). get_or l c 0) (same k h) ∙ line_at n t k c hc
@@ -53,7 +54,7 @@ module _ (w n : ℕ) (t : List ℕ) (ok : Accepted w n t) (start : at_start n t 
 pub fresh-boards-begin : FreshBoardsBegin
 fresh-boards-begin w n b fits some =
     let first = good w n 0 (fresh_after w n 0 (b 0)) (fresh-is-one w n 0 (b 0) (fits 0 some)) in
-    let ok = accepted w n (fresh_table n) (fresh-accepted n w first.wired first.size) in
-    let given = fresh-premises w n 0 0 first.wired first.size in
+    let ok = accepted w n (fresh_table n) (fresh-accepted n w first.size) in
+    let given = fresh-premises w n 0 0 first.size in
     lines-begin w n (fresh_table n) ok given.start given.two_live given.accurate (λ i. fresh_after w n i (b i))
     (λ k h. fresh-boards w n k (b k) (fits k h))

@@ -9,6 +9,7 @@ use lib.Dec.{eqb}
 use Rattle.lists.proofs.BoolLaws.{by_bool}
 use Rattle.lists.specs.Sums.{bit}
 use Rattle.table.specs.Rules.{round_over}
+use Rattle.table.specs.declared.wiring.Wiring.{Wiring}
 use Rattle.plant.specs.Round.{reset_lines, after_round}
 use Rattle.plant.specs.Entry.{Entry, State, entry_refusal, acted, after, sheet_line}
 use Rattle.plant.specs.Run.{write_line, go_on}
@@ -22,13 +23,14 @@ use Rattle.detection.proofs.Counting.{Counts, counts_start}
 use Rattle.cable.specs.Boards.{Lines, Hold, after_act, all_finished, after_entry, after_entries}
 use Rattle.board_detection.specs.Detect.{TurnInTime, TurnsInTime, board_tests, counts_by_round}
 use Rattle.board_detection.proofs.Steps.{Beside, beside-after, no_crash, takes, in_time, test-same, over, counted, closing-same}
+use Rattle.table.proofs.WiringLaws.{same-itself}
 
 -- q of an entry that boards take is r of the one that the table takes
-abbrev pub Alike : ℕ → ℕ → (Lines → Entry → Bool) → (Taken → Bool) → Type 0
+abbrev pub Alike : Wiring → ℕ → (Lines → Entry → Bool) → (Taken → Bool) → Type 0
 Alike w n q r = (s : State) (b : Lines) (e : Entry) → Beside w n s b → TurnInTime w n b e → q b e ≡ r (taken_at w n s e)
 
 -- what the table takes of the entries es of the boards
-pub record SameRounds (w n : ℕ) (s : State) (b : Lines) (cur : List Taken) (es : List Entry) : Type 0 where
+pub record SameRounds (w : Wiring) (n : ℕ) (s : State) (b : Lines) (cur : List Taken) (es : List Entry) : Type 0 where
   pub one_wiring : all_taken (is_on w) (taken_from w n s es) ≡ true
   pub no_crash : all_taken (λ x. not (crashes x)) (taken_from w n s es) ≡ true
   pub no_late : all_taken (λ x. not (is_late x)) (taken_from w n s es) ≡ true
@@ -36,7 +38,7 @@ pub record SameRounds (w n : ℕ) (s : State) (b : Lines) (cur : List Taken) (es
       → map (count_taken r) (all_rounds (cut cur (taken_from w n s es))) ≡ counts_by_round q w n (count_taken r cur) b es
   pub held : (k : ℕ) (sheet : List ℕ) → Hold n (go_on w n k s sheet es).state.table (after_entries w n b es)
 
-module _ (w n : ℕ) (s : State) (b : Lines) (e : Entry) (es : List Entry) (at : Beside w n s b) (turn : TurnInTime w n b e) (t₀ : List ℕ)
+module _ (w : Wiring) (n : ℕ) (s : State) (b : Lines) (e : Entry) (es : List Entry) (at : Beside w n s b) (turn : TurnInTime w n b e) (t₀ : List ℕ)
     (cur : List Taken) (fresh : (k : ℕ) → k < n → Reset n t₀ k) (counts : Counts n t₀ cur s.table) where
   abbrev x : Taken
   x = taken_at w n s e
@@ -79,7 +81,7 @@ module _ (w n : ℕ) (s : State) (b : Lines) (e : Entry) (es : List Entry) (at :
           → map (count_taken r) (all_rounds (cut cur (taken_from w n s (e ∷ es)))) ≡ counts_by_round q w n (count_taken r cur) b (e ∷ es))
           → SameRounds w n s b cur (e ∷ es)
       with now r counts = record {
-        one_wiring = rw z (ap₂ ◌&&◌ (eq-eqb w w refl) r.one_wiring);
+        one_wiring = rw z (ap₂ ◌&&◌ (same-itself w) r.one_wiring);
         no_crash = rw z (ap₂ ◌&&◌ (ap not (no_crash w n s b e at turn)) r.no_crash);
         no_late = rw z (ap₂ ◌&&◌ (ap not (in_time w n s b e at turn)) r.no_late);
         counts = counts;
@@ -98,7 +100,8 @@ module _ (w n : ℕ) (s : State) (b : Lines) (e : Entry) (es : List Entry) (at :
           with here r (λ q p alike. rw (z, same ∙ over, over, ← made q p alike) (r.counts q p alike))
 
 -- of the whole list, in a round that started with t₀ and has the entries `cur` so far
-pub same-rounds : (w n : ℕ) (s : State) (b : Lines) (es : List Entry) → Beside w n s b → TurnsInTime w n b es → (t₀ : List ℕ) (cur : List Taken)
+pub same-rounds : (w : Wiring) (n : ℕ) (s : State) (b : Lines) (es : List Entry) → Beside w n s b → TurnsInTime w n b es
+    → (t₀ : List ℕ) (cur : List Taken)
     → ((k : ℕ) → k < n → Reset n t₀ k) → Counts n t₀ cur s.table → SameRounds w n s b cur es
 unfolding taken_from all_taken cut counts_by_round go_on after_entries
 same-rounds w n s b [] at turns t₀ cur fresh counts =
@@ -110,9 +113,9 @@ same-rounds w n s b (e ∷ es) at turns t₀ cur fresh counts =
     step w n s b e es at turn t₀ cur fresh counts (same-rounds w n (after w n s e) (after_entry w n b e) es (beside-after w n s b e at turn) later)
 
 -- the tests are as many
-pub tests-alike : (w n : ℕ) → Alike w n (board_tests w n) taken_test
+pub tests-alike : (w : Wiring) (n : ℕ) → Alike w n (board_tests w n) taken_test
 tests-alike w n s b e at turn = test-same w n s b e at turn
 
 -- and so are the turns of a board
-pub turns-alike : (w n i : ℕ) → Alike w n (λ b e. eqb e.station i) (is_turn_of i)
+pub turns-alike : (w : Wiring) (n i : ℕ) → Alike w n (λ b e. eqb e.station i) (is_turn_of i)
 turns-alike w n i s b e at turn = rw (no_crash w n s b e at turn)

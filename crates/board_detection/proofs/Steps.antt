@@ -15,10 +15,11 @@ use Rattle.lists.proofs.BoolLaws.{by_bool}
 use Rattle.lists.proofs.RefusalLaws.{ensure_ok, and_ok}
 use Rattle.table.specs.Table.{finished_column, finished, live}
 use Rattle.table.specs.Line.{line, is_live}
-use Rattle.table.specs.Rules.{round_over, numbered_table_refusal}
+use Rattle.table.specs.Rules.{round_over, table_refusal}
 use Rattle.table.proofs.Accepting.{Accepted}
 use Rattle.table.proofs.CellLaws.{accepted-line}
 use Rattle.table.proofs.LineLaws.{line_at}
+use Rattle.table.specs.declared.wiring.Wiring.{Wiring}
 use Rattle.plant.specs.Turn.{kind_turn, kind_late, makes_test, turn_tested, next_test, outcome_at}
 use Rattle.plant.specs.Entry.{Entry, State, tally_top, is_crash, entry_check, entry_refusal, acted, tested_of, outcome_of, after}
 use Rattle.plant.proofs.RunLaws.{accepted-number, made-test}
@@ -40,19 +41,19 @@ use Rattle.cable.proofs.RunByCalls.{tester-answers, acting, entry-held}
 use Rattle.board_detection.specs.Detect.{TurnInTime, is_of_test, board_tests}
 
 -- boards, and a table that they hold. Its tally is above the top, so that it is never full: boards have none
-pub record Beside (w n : ℕ) (s : State) (b : Lines) : Type 0 where
+pub record Beside (w : Wiring) (n : ℕ) (s : State) (b : Lines) : Type 0 where
   pub ok : Accepted w n s.table
   pub hold : Hold n s.table b
   pub rounds : tally_top < s.rounds
   pub tests : tally_top < s.tests
 
 -- a board whose calls do not refuse a turn is one of the plant, is live, and has not finished its pass
-record Going (w n i : ℕ) (l : List ℕ) : Type 0 where
+record Going (w : Wiring) (n i : ℕ) (l : List ℕ) : Type 0 where
   below : i < n
   alive : is_live l ≡ true
   unfinished : get_or l finished_column 0 ≡ 1 → ⊥
 
-going : (w n i : ℕ) (l : List ℕ) → turn_check w n i l ≡ Ok tt → Going w n i l
+going : (w : Wiring) (n i : ℕ) (l : List ℕ) → turn_check w n i l ≡ Ok tt → Going w n i l
 unfolding turn_check live_check
 going w n i l e =
     let p = and_ok _ _ tt e in
@@ -63,7 +64,7 @@ going w n i l e =
       unfinished = eqb-false _ 1 (not-true _ (ensure_ok _ _ _ p.1));
     }
 
-module _ (w n : ℕ) (s : State) (b : Lines) (e : Entry) (at : Beside w n s b) (turn : TurnInTime w n b e) where
+module _ (w : Wiring) (n : ℕ) (s : State) (b : Lines) (e : Entry) (at : Beside w n s b) (turn : TurnInTime w n b e) where
   abbrev t : List ℕ
   t = s.table
 
@@ -73,7 +74,7 @@ module _ (w n : ℕ) (s : State) (b : Lines) (e : Entry) (at : Beside w n s b) (
   abbrev x : Taken
   x = taken_at w n s e
 
-  z : numbered_table_refusal w n t ≡ 0
+  z : table_refusal w n t ≡ 0
   z = accepted-number w n t at.ok
 
   facts : Going w n i (b i)

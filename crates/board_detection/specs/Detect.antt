@@ -1,5 +1,5 @@
 -- Detection by n boards on one cable, each with its own line and nothing else: the live ones come to suspect exactly those that are not live. w is
--- the wiring's number, b k the line that board k holds, and es the entries that the boards take by their calls, one after the other.
+-- the wiring, b k the line that board k holds, and es the entries that the boards take by their calls, one after the other.
 -- Assumes nothing.
 use Rattle.std.specs.Prelude.{◌≡◌, ◌⊎◌, ℕ, ◌+◌, ◌-◌, ◌≤◌, ◌<◌, Bool, true, false, not, List, [], ◌∷◌, ◌++◌, length, Some, Result, Ok, Err}
 use Rattle.std.specs.Prelude.{if◌then◌else◌, ◌==◌, slice_index}
@@ -7,6 +7,7 @@ use Rattle.lists.specs.declared.refusal.Refusal.{Refusal}
 use Rattle.lists.specs.Sums.{sum_below, bit}
 use Rattle.table.specs.Table.{next_column, finished_column, tests_column}
 use Rattle.table.specs.Line.{is_live}
+use Rattle.table.specs.declared.wiring.Wiring.{Wiring}
 use Rattle.plant.specs.Turn.{kind_turn, kind_late}
 use Rattle.plant.specs.Entry.{Entry, shows_test}
 use Rattle.detection.specs.Claim.{nobody_live_by, pairs_by, count_by, counted_from}
@@ -26,7 +27,7 @@ live_boards n b = sum_below (λ i. bit (is_live (b i))) n
 
 -- Rule Boards detect, what it supposes of the boards: the calls let each line through, and each is at the start of a round, of boards that are not
 -- live too. At least two boards are live, and no live one suspects a live one
-pub record BoardsBegin (w n : ℕ) (b : Lines) : Type 0 where
+pub record BoardsBegin (w : Wiring) (n : ℕ) (b : Lines) : Type 0 where
   pub lines : (i : ℕ) → i < n → line_check w n i (b i) ≡ Ok tt
   pub start : (i : ℕ) → i < n → StartsRound (b i)
   pub two_live : 2 ≤ live_boards n b
@@ -34,13 +35,13 @@ pub record BoardsBegin (w n : ℕ) (b : Lines) : Type 0 where
 
 -- and of an entry: it is a turn that its board's calls do not refuse. It is of kind 2, late, only if the board that call Board, next names is not
 -- live
-pub record TurnInTime (w n : ℕ) (b : Lines) (e : Entry) : Type 0 where
+pub record TurnInTime (w : Wiring) (n : ℕ) (b : Lines) (e : Entry) : Type 0 where
   pub kind : (e.kind ≡ kind_turn) ⊎ (e.kind ≡ kind_late)
   pub taken : turn_check w n e.station (b e.station) ≡ Ok tt
   pub no_late : e.kind ≡ kind_late → (j : ℕ) → next_answer w n e.station (b e.station) ≡ Ok (Some j) → is_live (b j) ≡ false
 
 -- and of a list: so is each entry, for the lines that the entries before it leave
-abbrev pub TurnsInTime : ℕ → ℕ → Lines → List Entry → Type 0
+abbrev pub TurnsInTime : Wiring → ℕ → Lines → List Entry → Type 0
 TurnsInTime w n b es =
     (before : List Entry) (e : Entry) (rest : List Entry) → es ≡ before ++ (e ∷ rest) → TurnInTime w n (after_entries w n b before) e
 
@@ -50,12 +51,12 @@ is_of_test (Ok outcome) = shows_test outcome
 is_of_test (Err r) = false
 
 -- whether the turn makes a test, by what the call of its board answers
-abbrev pub board_tests : ℕ → ℕ → Lines → Entry → Bool
+abbrev pub board_tests : Wiring → ℕ → Lines → Entry → Bool
 board_tests w n b e = is_of_test (tester_answer w n e.station (b e.station) (reply_to_test w n b e.kind e.station))
 
 -- how many entries pass q in each round, in order; the last number is that of the round that is still open after the list. A round closes with the
 -- entry after which some board is live and each live one has finished its pass. `so_far` passed before the list, in the round that is open at first
-unfoldable pub counts_by_round : (Lines → Entry → Bool) → ℕ → ℕ → ℕ → Lines → List Entry → List ℕ
+unfoldable pub counts_by_round : (Lines → Entry → Bool) → Wiring → ℕ → ℕ → Lines → List Entry → List ℕ
 counts_by_round q w n so_far b [] = so_far ∷ []
 counts_by_round q w n so_far b (e ∷ es) =
     let here = so_far + bit (q b e) in
@@ -64,22 +65,22 @@ counts_by_round q w n so_far b (e ∷ es) =
     if all_finished n (after_act w n b e) then closing else going
 
 -- the tests of each round, and the turns of board i in each, from the start of a round on
-abbrev pub tests_by_round : ℕ → ℕ → Lines → List Entry → List ℕ
+abbrev pub tests_by_round : Wiring → ℕ → Lines → List Entry → List ℕ
 tests_by_round w n b es = counts_by_round (board_tests w n) w n 0 b es
 
-abbrev pub turns_by_round : ℕ → ℕ → ℕ → Lines → List Entry → List ℕ
+abbrev pub turns_by_round : Wiring → ℕ → ℕ → Lines → List Entry → List ℕ
 turns_by_round w n i b es = counts_by_round (λ b e. e.station == i) w n 0 b es
 
 -- how many rounds close in the list: all but the last of these
-abbrev pub closed_rounds : ℕ → ℕ → Lines → List Entry → ℕ
+abbrev pub closed_rounds : Wiring → ℕ → Lines → List Entry → ℕ
 closed_rounds w n b es = length (tests_by_round w n b es) - 1
 
 -- Rule Count of tests, by who is live: on the cube n·d, less one for each board and each level at which its group has no live board; on the ring n
-unfoldable pub count_of_tests : ℕ → ℕ → Lines → ℕ
+unfoldable pub count_of_tests : Wiring → ℕ → Lines → ℕ
 count_of_tests w n b = count_by w n (pairs_by n (nobody_live_by n (λ k. is_live (b k))))
 
 -- Rule Boards detect, what it claims, where so many rounds are enough
-pub record BoardsKnow (enough w n : ℕ) (b : Lines) (es : List Entry) : Type 0 where
+pub record BoardsKnow (enough : ℕ) (w : Wiring) (n : ℕ) (b : Lines) (es : List Entry) : Type 0 where
   -- the live boards are the same as at first
   pub same_live : (i : ℕ) → i < n → is_live (after_entries w n b es i) ≡ is_live (b i)
   -- in each round, the open one too, a live board has at most n turns
@@ -91,11 +92,12 @@ pub record BoardsKnow (enough w n : ℕ) (b : Lines) (es : List Entry) : Type 0 
   pub tests : (k : ℕ) → counted_from w enough ≤ k → k < closed_rounds w n b es → slice_index (tests_by_round w n b es) k ≡ count_of_tests w n b
 
 -- Rule Boards detect: within so many rounds by wiring and size, for any number of entries, in any order
-abbrev pub BoardsDetect : (ℕ → ℕ → ℕ) → Type 0
+abbrev pub BoardsDetect : (Wiring → ℕ → ℕ) → Type 0
 BoardsDetect rounds =
-    (w n : ℕ) (b : Lines) (es : List Entry) → BoardsBegin w n b → TurnsInTime w n b es → BoardsKnow (rounds w n) w n b es
+    (w : Wiring) (n : ℕ) (b : Lines) (es : List Entry) → BoardsBegin w n b → TurnsInTime w n b es → BoardsKnow (rounds w n) w n b es
 
 -- Rule Conditions are met: boards that have called Board, fresh meet what is supposed of the boards, whatever their lines were before
 abbrev pub FreshBoardsBegin : Type 0
 FreshBoardsBegin =
-    (w n : ℕ) (b : Lines) → ((i : ℕ) → i < n → place_check w n i (length (b i)) ≡ Ok tt) → 0 < n → BoardsBegin w n (λ i. fresh_after w n i (b i))
+    (w : Wiring) (n : ℕ) (b : Lines) → ((i : ℕ) → i < n → place_check w n i (length (b i)) ≡ Ok tt) → 0 < n
+    → BoardsBegin w n (λ i. fresh_after w n i (b i))

@@ -3,9 +3,10 @@
 -- Assumes nothing.
 use Rattle.std.specs.Prelude.{◌≡◌, ℕ, List, [], ◌∷◌, map}
 use Rattle.lists.specs.Search.{list_of}
-use Rattle.table.specs.Wiring.{wiring_cube, wiring_ring}
 use Rattle.table.specs.Table.{stride}
 use Rattle.table.specs.Fresh.{fresh_byte}
+use Rattle.table.specs.declared.wiring.Wiring.{Wiring}
+use Rattle.table.specs.declared.wiring.Wiring.TheVariants.{Cube, Ring}
 use Rattle.plant.specs.Turn.{kind_turn}
 use Rattle.plant.specs.Entry.{Entry, entry_of}
 use Rattle.cable.specs.Boards.{Lines, after_crash}
@@ -20,7 +21,7 @@ unfoldable pub turns_of : List ℕ → List Entry
 turns_of is = map (entry_of kind_turn) is
 
 -- the tests of each round, the open one last, and the count of the claim
-pub record BoardsComputed (w n : ℕ) (b : Lines) (es : List Entry) (tests : List ℕ) (count : ℕ) : Type 0 where
+pub record BoardsComputed (w : Wiring) (n : ℕ) (b : Lines) (es : List Entry) (tests : List ℕ) (count : ℕ) : Type 0 where
   pub begin : BoardsBegin w n b
   pub in_time : TurnsInTime w n b es
   pub tests_are : tests_by_round w n b es ≡ tests
@@ -43,8 +44,8 @@ ring_turns = ring_pass (ring_pass (ring_pass (2 ∷ [])))
 
 -- Rule Conditions are met: on the cube three rounds of seven tests, and one test in the open round
 abbrev pub FourBoards : Type 0
-FourBoards = BoardsComputed wiring_cube 4 (all_but 4 3) (turns_of cube_turns) (7 ∷ 7 ∷ 7 ∷ 1 ∷ []) 7
+FourBoards = BoardsComputed Cube 4 (all_but 4 3) (turns_of cube_turns) (7 ∷ 7 ∷ 7 ∷ 1 ∷ []) 7
 
 -- on the ring three rounds of four tests, and one test in the open round
 abbrev pub FourOnRing : Type 0
-FourOnRing = BoardsComputed wiring_ring 4 (all_but 4 1) (turns_of ring_turns) (4 ∷ 4 ∷ 4 ∷ 1 ∷ []) 4
+FourOnRing = BoardsComputed Ring 4 (all_but 4 1) (turns_of ring_turns) (4 ∷ 4 ∷ 4 ∷ 1 ∷ []) 4

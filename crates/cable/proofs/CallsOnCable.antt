@@ -14,10 +14,11 @@ use Rattle.lists.proofs.BoolLaws.{by_bool}
 use Rattle.lists.proofs.SearchLaws.{both}
 use Rattle.table.specs.Table.{head, stride, cell, status_column, finished_column, live, finished, row}
 use Rattle.table.specs.Line.{line, row_of}
-use Rattle.table.specs.Rules.{numbered_table_refusal}
+use Rattle.table.specs.Rules.{table_refusal}
 use Rattle.table.proofs.Accepting.{Accepted, accepted}
 use Rattle.table.proofs.CellLaws.{line-holds, accepted-line, row_at}
 use Rattle.table.proofs.LineLaws.{line_at, line-length, line-row, row_of-length, row_of-at}
+use Rattle.table.specs.declared.wiring.Wiring.{Wiring}
 use Rattle.station.specs.Outcome.{outcome_finished, outcome_exchanged, outcome_tested_told}
 use Rattle.station.specs.Rows.{union}
 use Rattle.plant.specs.Turn.{makes_test, replies, turn, turn_tested, turn_outcome}
@@ -34,7 +35,7 @@ use Rattle.cable.proofs.RowsSent.{pack-length, rows-travel, either-row-serves}
 use Rattle.cable.proofs.ExchangeLine.{row-after, live-after}
 
 -- which calls are not refused on a line that is let through
-module _ (w n i : ℕ) (l : List ℕ) (alive : live_check w n i l ≡ Ok tt) where
+module _ (w : Wiring) (n i : ℕ) (l : List ℕ) (alive : live_check w n i l ≡ Ok tt) where
   pub turn-ok : (get_or l finished_column 0 ≡ 1 → ⊥) → turn_check w n i l ≡ Ok tt
   unfolding turn_check
   turn-ok going = rw (alive, ne_eqb (get_or l finished_column 0) 1 going)
@@ -54,7 +55,7 @@ module _ (w n i : ℕ) (l : List ℕ) (alive : live_check w n i l ≡ Ok tt) whe
       rw (alive, e, eq-eqb (packed_length n) (packed_length n) refl)
 
 -- a live line of a table
-pub live-ok : (w n : ℕ) (t : List ℕ) (i : ℕ) → numbered_table_refusal w n t ≡ 0 → i < n → live n t i ≡ true → live_check w n i (line n t i) ≡ Ok tt
+pub live-ok : (w : Wiring) (n : ℕ) (t : List ℕ) (i : ℕ) → table_refusal w n t ≡ 0 → i < n → live n t i ≡ true → live_check w n i (line n t i) ≡ Ok tt
 unfolding live_check
 live-ok w n t i z h alive = rw (lines-of-tables w n t i z h, line_at n t i status_column (omega arith), alive)
 
@@ -68,11 +69,11 @@ fitting n None = Unit {0}
 fitting n (Some p) = length p ≡ packed_length n
 
 -- what comes back over the cable in the turn of i, by the table
-unfoldable pub packed_reply : ℕ → ℕ → List ℕ → ℕ → ℕ → Option (List ℕ)
+unfoldable pub packed_reply : Wiring → ℕ → List ℕ → ℕ → ℕ → Option (List ℕ)
 packed_reply w n t kind i =
     cond (replies n t kind (turn_tested w n t i)) (Some (pack n (row_of n (line n t (turn_tested w n t i))))) None
 
-module _ (w n : ℕ) (t : List ℕ) (kind i : ℕ) (z : numbered_table_refusal w n t ≡ 0) (h : i < n) (alive : live n t i ≡ true)
+module _ (w : Wiring) (n : ℕ) (t : List ℕ) (kind i : ℕ) (z : table_refusal w n t ≡ 0) (h : i < n) (alive : live n t i ≡ true)
     (going : finished n t i ≡ 1 → ⊥) where
   acc : Accepted w n t
   acc = accepted w n t z
@@ -211,7 +212,7 @@ module _ (w n : ℕ) (t : List ℕ) (kind i : ℕ) (z : numbered_table_refusal w
   unfolding live_check
   row-sent o =
       let lines = turn_lines w n t kind i (acc.long, accepted-line w n t acc) h going in
-      let ok = line-ok w n u i acc.wired acc.size lines.0 h (line-holds w n u i (lines.1 i h)) in
+      let ok = line-ok w n u i acc.size lines.0 h (line-holds w n u i (lines.1 i h)) in
       row-ok w n i (line n u i) (rw (ok, still-live o))
 
   pub exchanged-leaves : (k : ℕ) → k < n → k ≡ j → turn_outcome w n t kind i ≡ outcome_exchanged

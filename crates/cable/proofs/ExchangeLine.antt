@@ -18,6 +18,7 @@ use Rattle.lists.proofs.SearchLaws.{every-not}
 use Rattle.table.specs.Table.{head, stride, status_column, next_column, tests_column, status_alone}
 use Rattle.table.specs.Line.{row_of, with_row}
 use Rattle.table.proofs.LineLaws.{row_of-length, row_of-at, with_row-head, with_row-in, with_row-length}
+use Rattle.table.specs.declared.wiring.Wiring.{Wiring}
 use Rattle.station.specs.Outcome.{outcome_exchanged}
 use Rattle.station.specs.Wired.{wired_station, next_after}
 use Rattle.station.specs.Rows.{union, self_or_suspected_by}
@@ -27,7 +28,7 @@ use Rattle.board.specs.Board.{after_alone, alone}
 use Rattle.cable.proofs.RowsSent.{row_of-set, row_of-with}
 
 -- a turn that exchanges leaves the union as the tester's row, and leaves it live where neither suspects the other and the tested board not itself
-module _ (w n i : ℕ) (l r : List ℕ) (m j : ℕ) (long : length l ≡ stride n) where
+module _ (w : Wiring) (n i : ℕ) (l r : List ℕ) (m j : ℕ) (long : length l ≡ stride n) where
   one : List ℕ
   one = set l next_column (next_after w n m outcome_exchanged)
 
@@ -92,7 +93,7 @@ clear-of i j l r e one =
     by_bool (eqb (get_or r i 0) 1) (λ a. let z : ◌≡◌ {A = ℕ} 2 1 = rw a at e in omega arith)
     (λ a. let z : ◌≡◌ {A = ℕ} 5 1 = rw (a, eq-eqb (get_or l (head + j) 0) 1 one) at e in omega arith)
 
-pub live-after : (w n i : ℕ) (l r : List ℕ) (j : ℕ) → length l ≡ stride n → j < n → j ≢ i → tests w n i l ≡ true → tested w n i l ≡ j
+pub live-after : (w : Wiring) (n i : ℕ) (l r : List ℕ) (j : ℕ) → length l ≡ stride n → j < n → j ≢ i → tests w n i l ≡ true → tested w n i l ≡ j
     → outcome w n i l (Some r) ≡ outcome_exchanged → get_or l (head + j) 0 ≤ 1 → get_or r j 0 ≡ 0
     → get_or l status_column 0 ≡ 0 → get_or (turn_of w n i l (Some r)) status_column 0 ≡ 0
 unfolding turn_of outcome tested
@@ -102,7 +103,7 @@ live-after w n i l r j long hj apart makes is e low own alive =
     let clear : get_or l (head + j) 0 ≡ 0 = let c = clear-of i j l r o in omega arith in
     rw (makes, k, o) (stays-live w n i l r (next_of w n i l) j long hj apart clear own alive)
 
-pub row-after : (w n i : ℕ) (l r : List ℕ) → length l ≡ stride n → tests w n i l ≡ true → outcome w n i l (Some r) ≡ outcome_exchanged
+pub row-after : (w : Wiring) (n i : ℕ) (l r : List ℕ) → length l ≡ stride n → tests w n i l ≡ true → outcome w n i l (Some r) ≡ outcome_exchanged
     → row_of n (turn_of w n i l (Some r)) ≡ union (row_of n l) r i
 unfolding turn_of outcome
 row-after w n i l r long makes e =

@@ -17,9 +17,10 @@ use Rattle.table.specs.Line.{line, set_line}
 use Rattle.board.specs.Board.{tested, turn_of, sent, received}
 use Rattle.cable.specs.Claims.{reply_to, SameTurn, turn_by_lines, TurnIsByLines}
 use Rattle.table.proofs.LineLaws.{line-length, line-set_line, line-set_line-other, set_line-length, by_lines}
+use Rattle.table.specs.declared.wiring.Wiring.{Wiring}
 use Rattle.cable.proofs.TurnByLines.{same-turn, tests-line, tested-below, tested-apart, none-tested, turn-length}
 
-module _ (w n : ℕ) (t : List ℕ) (kind i : ℕ) (long : length t ≡ table_length n) (h : i < n) (same : SameTurn w n t kind i)
+module _ (w : Wiring) (n : ℕ) (t : List ℕ) (kind i : ℕ) (long : length t ≡ table_length n) (h : i < n) (same : SameTurn w n t kind i)
     (full : length (turn w n t kind i) ≡ length t) where
   abbrev l : List ℕ
   l = line n t i

@@ -17,12 +17,12 @@ use Rattle.lists.proofs.BoolLaws.{by_bool}
 use Rattle.table.specs.Table.{table_length, status_column, next_column, finished_column, tests_column, rounds_ago_column, status_crashed, status}
 use Rattle.table.specs.Table.{finished, live}
 use Rattle.table.specs.Line.{line, is_live}
-use Rattle.table.specs.Rules.{round_over, numbered_table_refusal}
+use Rattle.table.specs.Rules.{round_over, table_refusal}
 use Rattle.table.specs.Sizes.{is_size}
-use Rattle.table.specs.Wiring.{wiring_check}
 use Rattle.table.proofs.Accepting.{Accepted, accepted}
 use Rattle.table.proofs.CellLaws.{Line, line-holds}
 use Rattle.table.proofs.LineLaws.{line-set, line-set-other}
+use Rattle.table.specs.declared.wiring.Wiring.{Wiring}
 use Rattle.station.specs.Outcome.{outcome_exchanged, outcome_tested_told}
 use Rattle.station.specs.Step.{aged}
 use Rattle.plant.specs.Turn.{makes_test, replies, turn, turn_tested, turn_outcome, crash}
@@ -45,7 +45,7 @@ use Rattle.cable.proofs.CallsOnCable.{row-ok, live-ok, packed_reply, asks, asks-
 use Rattle.cable.proofs.CallsOnCable.{told-leaves, row-sent, exchanged-leaves, others-keep}
 
 -- a turn of a live board
-module _ (w n : ℕ) (t : List ℕ) (b : Lines) (hold : Hold n t b) (z : numbered_table_refusal w n t ≡ 0) (kind i : ℕ) (h : i < n)
+module _ (w : Wiring) (n : ℕ) (t : List ℕ) (b : Lines) (hold : Hold n t b) (z : table_refusal w n t ≡ 0) (kind i : ℕ) (h : i < n)
     (alive : live n t i ≡ true) (going : finished n t i ≡ 1 → ⊥) where
   acc : Accepted w n t
   acc = accepted w n t z
@@ -160,10 +160,10 @@ closed-status : (c : Check) (l : List ℕ) → get_or (unless_refused c l (round
 closed-status (Ok x) l = same-status l
 closed-status (Err r) l = refl
 
-pub closing : (w n : ℕ) (t : List ℕ) (b : Lines) → Hold n t b → wiring_check w ≡ Ok tt → is_size n ≡ true → length t ≡ table_length n
+pub closing : (w : Wiring) (n : ℕ) (t : List ℕ) (b : Lines) → Hold n t b → is_size n ≡ true → length t ≡ table_length n
     → ((k : ℕ) → k < n → Line w n t k) → Hold n (after_round n t) (after_closing w n b)
 unfolding after_round after_closing
-closing w n t b hold wired size long lines =
+closing w n t b hold size long lines =
     by_bool (round_over n t) (λ o. rw (over-same n t b hold, o) closed) (λ o. rw (over-same n t b hold, o) hold)
   where
     was : (k : ℕ) → status n (reset_lines n t) k ≡ status n t k
@@ -174,15 +174,16 @@ closing w n t b hold wired size long lines =
       statuses = λ k hk. closed-status (line_check w n k (b k)) (b k) ∙ (hold.statuses k hk ∙ sym (was k));
       live_lines = λ k hk l.
           let e : b k ≡ line n t k = hold.live_lines k hk (rw (was k) at l) in
-          rw (e, line-ok w n t k wired size long hk (line-holds w n t k (lines k hk))) (sym (closed-line n t k long hk));
+          rw (e, line-ok w n t k size long hk (line-holds w n t k (lines k hk))) (sym (closed-line n t k long hk));
     }
 
 -- an entry that is taken
-module _ (w n : ℕ) (s : State) (b : Lines) (hold : Hold n s.table b) (e : Entry) (a : Accepted w n s.table) (taken : entry_refusal n s e ≡ 0) where
+module _ (w : Wiring) (n : ℕ) (s : State) (b : Lines) (hold : Hold n s.table b) (e : Entry) (a : Accepted w n s.table)
+    (taken : entry_refusal n s e ≡ 0) where
   takes : Takes n s e
   takes = entry-facts n s e taken
 
-  z : numbered_table_refusal w n s.table ≡ 0
+  z : table_refusal w n s.table ≡ 0
   z = accepted-number w n s.table a
 
   pub acting : Hold n (acted w n s.table e) (after_act w n b e)
@@ -196,7 +197,7 @@ module _ (w n : ℕ) (s : State) (b : Lines) (hold : Hold n s.table b) (e : Entr
   unfolding after after_entry
   entry-held =
       let lines = acted-lines w n s e a taken in
-      closing w n (acted w n s.table e) (after_act w n b e) acting a.wired a.size lines.0 lines.1
+      closing w n (acted w n s.table e) (after_act w n b e) acting a.size lines.0 lines.1
 
   -- and its line of the sheet
   pub entry-shown : sheet_line w n s e ≡ entry_line w n b e
@@ -213,7 +214,7 @@ module _ (w n : ℕ) (s : State) (b : Lines) (hold : Hold n s.table b) (e : Entr
       rw (c, q, o, t))
 
 -- the rest of a run
-run-on : (w n k : ℕ) (s : State) (sheet : List ℕ) (es : List Entry) (b : Lines) → Accepted w n s.table → Hold n s.table b
+run-on : (w : Wiring) (n k : ℕ) (s : State) (sheet : List ℕ) (es : List Entry) (b : Lines) → Accepted w n s.table → Hold n s.table b
     → (k ≤ (go_on w n k s sheet es).taken)
     × Hold n (go_on w n k s sheet es).state.table (after_entries w n b (take ((go_on w n k s sheet es).taken - k) es))
     × ((go_on w n k s sheet es).sheet ≡ sheet_after w n k b sheet (take ((go_on w n k s sheet es).taken - k) es))

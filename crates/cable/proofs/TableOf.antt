@@ -9,7 +9,7 @@ use Rattle.std.proofs.lemmas.Nat.{div-mul-add, mod-mul-add}
 use Rattle.lists.proofs.SearchLaws.{every-all, list_of-length, list_of-at}
 use Rattle.table.specs.Table.{stride, table_length, line_start, cell}
 use Rattle.table.specs.Line.{line}
-use Rattle.table.specs.Rules.{wired_line_rules}
+use Rattle.table.specs.Rules.{line_rules}
 use Rattle.table.proofs.CellLaws.{line-inside}
 use Rattle.table.proofs.LineLaws.{line_is}
 use Rattle.plant.proofs.RunLaws.{accepted-number}
@@ -38,10 +38,9 @@ module _ (n : ℕ) (b : Lines) where
 pub boards-make-a-table : BoardsMakeATable
 boards-make-a-table w n b some through going = (
   accepted-number w n t (record {
-    wired = (facts 0 some).wired;
     size = (facts 0 some).size;
     long = table-length n b;
-    lines = every-all (wired_line_rules w n t) n (λ k hk. sym (rules-same w n t k hk) ∙ rw (same k hk) (rules-of w n k (b k) (through k hk)));
+    lines = every-all (line_rules w n t) n (λ k hk. sym (rules-same w n t k hk) ∙ rw (same k hk) (rules-of w n k (b k) (through k hk)));
     unclosed = sym (over-same n t b hold) ∙ going;
   }),
   hold,

@@ -32,18 +32,19 @@ use Rattle.board.specs.Board.{next_of, tests, tested, pass_finished, counted, le
 use Rattle.board.specs.Board.{row_given, after_outcome, tested_at, turn_of, outcome, message, received}
 use Rattle.cable.specs.Claims.{answered, reply_to, SameTurn, BoardsDoTheTurn}
 use Rattle.table.proofs.LineLaws.{line_at, line-row, line-set, line-set-other, line-set_row, line-set_row-other}
+use Rattle.table.specs.declared.wiring.Wiring.{Wiring}
 
 module _ (n : ℕ) (t : List ℕ) (i : ℕ) (long : length t ≡ table_length n) (h : i < n) where
   -- whom the station tests next
-  pub next-line : (w : ℕ) → next_of w n i (line n t i) ≡ next_test w n t i
+  pub next-line : (w : Wiring) → next_of w n i (line n t i) ≡ next_test w n t i
   unfolding next_of next_test
   next-line w = rw (line-row n t i long h, line_at n t i next_column (omega arith))
 
-  pub tests-line : (w : ℕ) → tests w n i (line n t i) ≡ makes_test w n t i
+  pub tests-line : (w : Wiring) → tests w n i (line n t i) ≡ makes_test w n t i
   unfolding tests makes_test
   tests-line w = rw (next-line w)
 
-  pub tested-is : (w : ℕ) → turn_tested w n t i ≡ tested w n i (line n t i)
+  pub tested-is : (w : Wiring) → turn_tested w n t i ≡ tested w n i (line n t i)
   unfolding tested turn_tested
   tested-is w = rw (tests-line w, next-line w)
 
@@ -57,22 +58,22 @@ module _ (n : ℕ) (t : List ℕ) (i : ℕ) (long : length t ≡ table_length n)
       line-set-other n (set_cell n t i c v) i d x k (set_cell-length n t i c v ∙ long) hk hd apart ∙ line-set-other n t i c v k long hk hc apart
 
   -- the end of a pass
-  pub finish-line : (w : ℕ) → line n (finish_pass w n t i) i ≡ pass_finished w n (line n t i)
+  pub finish-line : (w : Wiring) → line n (finish_pass w n t i) i ≡ pass_finished w n (line n t i)
   unfolding finish_pass pass_finished
   finish-line w = two next_column (end_distance w n) finished_column 1 (omega arith) (omega arith)
 
-  pub finish-others : (w k : ℕ) → k < n → i ≢ k → line n (finish_pass w n t i) k ≡ line n t k
+  pub finish-others : (w : Wiring) (k : ℕ) → k < n → i ≢ k → line n (finish_pass w n t i) k ≡ line n t k
   unfolding finish_pass
   finish-others w k hk apart = two-other next_column (end_distance w n) finished_column 1 k (omega arith) (omega arith) hk apart
 
   -- the test is counted
-  pub count-line : (w m o : ℕ) → line n (count_test w n t i m o) i ≡ counted w n (line n t i) m o
+  pub count-line : (w : Wiring) (m o : ℕ) → line n (count_test w n t i m o) i ≡ counted w n (line n t i) m o
   unfolding count_test counted
   count-line w m o =
       rw (line_at n t i tests_column (omega arith))
       (two next_column (next_after w n m o) tests_column (tests_made n t i + 1) (omega arith) (omega arith))
 
-  pub count-others : (w m o k : ℕ) → k < n → i ≢ k → line n (count_test w n t i m o) k ≡ line n t k
+  pub count-others : (w : Wiring) (m o k : ℕ) → k < n → i ≢ k → line n (count_test w n t i m o) k ≡ line n t k
   unfolding count_test
   count-others w m o k hk apart =
       two-other next_column (next_after w n m o) tests_column (tests_made n t i + 1) k (omega arith) (omega arith) hk apart
@@ -111,11 +112,11 @@ module _ (n : ℕ) (t : List ℕ) (i : ℕ) (long : length t ≡ table_length n)
       by_bool (is_alone n t i) (λ e. rw e (line-set-other n t i status_column status_alone k long hk (omega arith) apart)) (λ e. rw e)
 
 -- whom a turn tests that makes a test
-pub tested-below : (w n : ℕ) (t : List ℕ) (i : ℕ) → length t ≡ table_length n → i < n → makes_test w n t i ≡ true → turn_tested w n t i < n
+pub tested-below : (w : Wiring) (n : ℕ) (t : List ℕ) (i : ℕ) → length t ≡ table_length n → i < n → makes_test w n t i ≡ true → turn_tested w n t i < n
 unfolding turn_tested
 tested-below w n t i long h makes = rw makes (test-station w n t i makes long h)
 
-pub tested-apart : (w n : ℕ) (t : List ℕ) (i : ℕ) → length t ≡ table_length n → i < n → makes_test w n t i ≡ true → 1 ≤ next_distance n t i
+pub tested-apart : (w : Wiring) (n : ℕ) (t : List ℕ) (i : ℕ) → length t ≡ table_length n → i < n → makes_test w n t i ≡ true → 1 ≤ next_distance n t i
     → i ≢ turn_tested w n t i
 unfolding turn_tested
 tested-apart w n t i long h makes low =
@@ -226,7 +227,7 @@ module _ (n : ℕ) (t : List ℕ) (i j : ℕ) (long : length t ≡ table_length 
         by_bool (eqb o outcome_exchanged) (λ c. rw (a, b, c) (others-keep k hk ni nj)) (λ c. rw (a, b, c) (suspect-others k hk (λ e. ni (sym e))))))
 
 -- a turn that tests
-module _ (w n : ℕ) (t : List ℕ) (kind i : ℕ) (long : length t ≡ table_length n) (h : i < n) (makes : makes_test w n t i ≡ true)
+module _ (w : Wiring) (n : ℕ) (t : List ℕ) (kind i : ℕ) (long : length t ≡ table_length n) (h : i < n) (makes : makes_test w n t i ≡ true)
     (low : 1 ≤ next_distance n t i) where
   abbrev m : ℕ
   m = next_test w n t i
@@ -317,7 +318,7 @@ module _ (w n : ℕ) (t : List ℕ) (kind i : ℕ) (long : length t ≡ table_le
   }
 
 -- a turn that finishes the pass
-module _ (w n : ℕ) (t : List ℕ) (kind i : ℕ) (long : length t ≡ table_length n) (h : i < n) (makes : makes_test w n t i ≡ false) where
+module _ (w : Wiring) (n : ℕ) (t : List ℕ) (kind i : ℕ) (long : length t ≡ table_length n) (h : i < n) (makes : makes_test w n t i ≡ false) where
   finishes : turn w n t kind i ≡ finish_pass w n t i
   unfolding turn
   finishes = rw makes
@@ -344,7 +345,7 @@ module _ (w n : ℕ) (t : List ℕ) (kind i : ℕ) (long : length t ≡ table_le
     others = λ k hk ni nj. rw finishes (finish-others n t i long h w k hk (λ e. ni (sym e)));
   }
 
-pub turn-length : (w n : ℕ) (t : List ℕ) (kind i : ℕ) → length t ≡ table_length n → i < n → 1 ≤ next_distance n t i
+pub turn-length : (w : Wiring) (n : ℕ) (t : List ℕ) (kind i : ℕ) → length t ≡ table_length n → i < n → 1 ≤ next_distance n t i
     → length (turn w n t kind i) ≡ length t
 unfolding turn testing after_test
 turn-length w n t kind i long h low =

@@ -3,8 +3,9 @@
 use Rattle.std.specs.Prelude.{◌≡◌, ◌≢◌, ℕ, ◌<◌, List, length, Option, None, Some, Ok, if◌then◌else◌}
 use Rattle.table.specs.Table.{stride, table_length, row}
 use Rattle.table.specs.Line.{line, row_of, set_line}
-use Rattle.table.specs.Rules.{numbered_table_refusal}
+use Rattle.table.specs.Rules.{table_refusal}
 use Rattle.table.specs.Fresh.{fresh_table}
+use Rattle.table.specs.declared.wiring.Wiring.{Wiring}
 use Rattle.station.specs.Rows.{union}
 use Rattle.plant.specs.Turn.{replies, turn, turn_tested, turn_outcome}
 use Rattle.plant.specs.Round.{reset_lines}
@@ -18,13 +19,13 @@ unfoldable pub answered : ℕ → List ℕ → ℕ → ℕ → Option (List ℕ)
 answered n t kind j = if replies n t kind j then Some (row n t j) else None
 
 -- what is answered in the turn of station i
-abbrev pub reply_to : ℕ → ℕ → List ℕ → ℕ → ℕ → Option (List ℕ)
+abbrev pub reply_to : Wiring → ℕ → List ℕ → ℕ → ℕ → Option (List ℕ)
 reply_to w n t kind i = answered n t kind (tested w n i (line n t i))
 
 -- Rule Board's turn: the turn of station i tests the station that board i finds by its line, and has the outcome that it finds by its line and the
 -- reply; line i becomes what board i makes of it; the line of the station tested becomes what that board makes of it and of what i sends; no other
 -- line changes
-pub record SameTurn (w n : ℕ) (t : List ℕ) (kind i : ℕ) : Type 0 where
+pub record SameTurn (w : Wiring) (n : ℕ) (t : List ℕ) (kind i : ℕ) : Type 0 where
   pub tested_station : turn_tested w n t i ≡ tested w n i (line n t i)
   pub outcome_number : turn_outcome w n t kind i ≡ outcome w n i (line n t i) (reply_to w n t kind i)
   pub tester : line n (turn w n t kind i) i ≡ turn_of w n i (line n t i) (reply_to w n t kind i)
@@ -32,12 +33,12 @@ pub record SameTurn (w n : ℕ) (t : List ℕ) (kind i : ℕ) : Type 0 where
       → line n (turn w n t kind i) j ≡ received n j i (line n t j) (sent w n i (line n t i) (reply_to w n t kind i))
   pub others : (k : ℕ) → k < n → k ≢ i → k ≢ turn_tested w n t i → line n (turn w n t kind i) k ≡ line n t k
 
--- on every table that refusals 24 and 1 to 4 let through, for every station and every kind
+-- on every table that refusals 1 to 4 let through, for every station and every kind
 abbrev pub BoardsDoTheTurn : Type 0
-BoardsDoTheTurn = (w n : ℕ) (t : List ℕ) (kind i : ℕ) → numbered_table_refusal w n t ≡ 0 → i < n → SameTurn w n t kind i
+BoardsDoTheTurn = (w : Wiring) (n : ℕ) (t : List ℕ) (kind i : ℕ) → table_refusal w n t ≡ 0 → i < n → SameTurn w n t kind i
 
 -- the same as one equation: the lines of the tester and of the station tested are written, each as its board makes it
-unfoldable pub turn_by_lines : ℕ → ℕ → List ℕ → ℕ → ℕ → List ℕ
+unfoldable pub turn_by_lines : Wiring → ℕ → List ℕ → ℕ → ℕ → List ℕ
 turn_by_lines w n t kind i =
     let l = line n t i in
     let j = tested w n i l in
@@ -47,7 +48,7 @@ turn_by_lines w n t kind i =
 
 abbrev pub TurnIsByLines : Type 0
 TurnIsByLines =
-    (w n : ℕ) (t : List ℕ) (kind i : ℕ) → numbered_table_refusal w n t ≡ 0 → i < n → turn w n t kind i ≡ turn_by_lines w n t kind i
+    (w : Wiring) (n : ℕ) (t : List ℕ) (kind i : ℕ) → table_refusal w n t ≡ 0 → i < n → turn w n t kind i ≡ turn_by_lines w n t kind i
 
 -- Rule Board's closing: each line of the closed table is what its board makes of it
 abbrev pub BoardsCloseTheRound : Type 0
@@ -62,12 +63,12 @@ EitherRowServes =
 
 -- Rule Rows travel: the row of a station, packed and heard, is that row
 abbrev pub RowsTravel : Type 0
-RowsTravel = (w n : ℕ) (t : List ℕ) (i : ℕ) → numbered_table_refusal w n t ≡ 0 → i < n → heard n i (pack n (row n t i)) ≡ row n t i
+RowsTravel = (w : Wiring) (n : ℕ) (t : List ℕ) (i : ℕ) → table_refusal w n t ≡ 0 → i < n → heard n i (pack n (row n t i)) ≡ row n t i
 
 -- Rule Lines of tables: the calls of its board let each line through
 abbrev pub LinesOfTables : Type 0
-LinesOfTables = (w n : ℕ) (t : List ℕ) (i : ℕ) → numbered_table_refusal w n t ≡ 0 → i < n → line_check w n i (line n t i) ≡ Ok tt
+LinesOfTables = (w : Wiring) (n : ℕ) (t : List ℕ) (i : ℕ) → table_refusal w n t ≡ 0 → i < n → line_check w n i (line n t i) ≡ Ok tt
 
 -- Rule Fresh boards: the line that call Board, fresh leaves, where it is not refused, is that line of the fresh table
 abbrev pub FreshBoards : Type 0
-FreshBoards = (w n i : ℕ) (l : List ℕ) → place_check w n i (length l) ≡ Ok tt → fresh_after w n i l ≡ line n (fresh_table n) i
+FreshBoards = (w : Wiring) (n i : ℕ) (l : List ℕ) → place_check w n i (length l) ≡ Ok tt → fresh_after w n i l ≡ line n (fresh_table n) i

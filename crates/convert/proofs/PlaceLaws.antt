@@ -15,8 +15,8 @@ use Rattle.lists.specs.Refusal.{Check}
 use Rattle.table.specs.Sizes.{is_size}
 use Rattle.table.specs.Table.{line_start, table_length}
 use Rattle.table.specs.Fresh.{fresh_table, fresh_after}
-use Rattle.table.specs.Wiring.{wiring_cube}
-use Rattle.table.specs.Rules.{shape_check, table_check, table_check_on, numbered_shape_check}
+use Rattle.table.specs.Rules.{shape_check, table_check}
+use Rattle.table.specs.declared.wiring.Wiring.TheVariants.{Cube}
 use Rattle.saved.specs.Fields.{extent, first_field}
 use Rattle.saved.specs.Plant.{station_in}
 use Rattle.saved.specs.Reading.{field_value, contents_length, line_as}
@@ -35,12 +35,12 @@ rules_not form c h = rw h refl
 
 module _ (form : Form) (c : List ℕ) (line : is_line form c ≡ true) where
   pub rules_size : is_size form.size ≡ false → Err SizeOutOfRange ≡ rules_check form c
-  unfolding rules_check table_check_on shape_check
+  unfolding rules_check table_check shape_check
   rules_size z = rw (line, z) refl
 
   -- a fresh table, with the line in it
   pub rules_in : (l : List ℕ) (answer : Check) → l ≡ drop 1 c
-      → answer ≡ table_check form.size (sets (fresh_table form.size) (line_start form.size (station_in c)) (line_as form.edition l))
+      → answer ≡ table_check Cube form.size (sets (fresh_table form.size) (line_start form.size (station_in c)) (line_as form.edition l))
       → answer ≡ rules_check form c
   unfolding rules_check
   rules_in l answer e z = z ∙ rw (line, e) refl
@@ -49,11 +49,11 @@ module _ (form : Form) (c : List ℕ) (line : is_line form c ≡ true) where
 pub ruleset line_judged = (empty_line, rules_not, rules_size, rules_in)
 
 -- a buffer of the right length is one of a table of that size
-pub right_shape : (n : ℕ) (t : List ℕ) → is_size n ≡ true → length t ≡ table_length n → numbered_shape_check wiring_cube n (length t) ≡ Ok tt
+pub right_shape : (n : ℕ) (t : List ℕ) → is_size n ≡ true → length t ≡ table_length n → shape_check n (length t) ≡ Ok tt
 unfolding shape_check
 right_shape n t z l = rw (z, eq-eqb (length t) (table_length n) l) refl
 
-pub made_fresh : (n : ℕ) (t : List ℕ) → is_size n ≡ true → length t ≡ table_length n → fresh_after wiring_cube n t ≡ fresh_table n
+pub made_fresh : (n : ℕ) (t : List ℕ) → is_size n ≡ true → length t ≡ table_length n → fresh_after n t ≡ fresh_table n
 unfolding fresh_after
 made_fresh n t z l = rw (right_shape n t z l) refl
 

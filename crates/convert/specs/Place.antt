@@ -12,6 +12,7 @@ use Rattle.lists.specs.Refusal.{Check, ensure, ◌and◌}
 use Rattle.table.specs.Table.{line_start}
 use Rattle.table.specs.Fresh.{fresh_table}
 use Rattle.table.specs.Rules.{table_check}
+use Rattle.table.specs.declared.wiring.Wiring.TheVariants.{Cube}
 use Rattle.saved.specs.Fields.{Field, extent, first_field}
 use Rattle.saved.specs.Plant.{size_tag, line_tag, station_in, fits}
 use Rattle.saved.specs.Order.{is_opening, nothing_before, follows}
@@ -54,7 +55,7 @@ lines_with lines c =
 unfoldable pub rules_check : Form → List ℕ → Check
 rules_check form c =
     ensure (is_line form c) LineRule
-    and table_check form.size (sets (fresh_table form.size) (line_start form.size (station_in c)) (line_read form.edition c))
+    and table_check Cube form.size (sets (fresh_table form.size) (line_start form.size (station_in c)) (line_read form.edition c))
 
 -- 4: the line of a live board
 abbrev pub live_check : List ℕ → Check

@@ -5,6 +5,7 @@ ghost use Rattle.table.specs.Sizes.{is_size};
 ghost use Rattle.table.specs.Table.{line_start, table_length};
 ghost use Rattle.table.specs.Fresh.{fresh_table};
 ghost use Rattle.table.specs.Rules.{table_check};
+ghost use Rattle.table.specs.declared.wiring.Wiring.TheVariants.{Cube};
 ghost use Rattle.saved.specs.Reading.{field_value, line_length, line_as};
 ghost use Rattle.convert.specs.Place.{search_for, order_search, is_line, lines_with, rules_check, search_with, place, ReadsWhole};
 
@@ -189,15 +190,15 @@ impl Form {
         requires long { length own.old ≡ table_length self.size }
         requires width { length line.now ≡ line_length self.edition self.size }
         ensures { let lines = fresh_table self.size in
-            result ≡ table_check self.size (sets lines (line_start self.size i.0) (line_as self.edition line.now)) }
+            result ≡ table_check Cube self.size (sets lines (line_start self.size i.0) (line_as self.edition line.now)) }
     {
-        fresh::fresh_table(Wiring::Cube as usize, self.size as usize, own)?;
+        fresh::fresh_table(self.size as usize, own)?;
         let table = &mut TableMut {
             n: self.size,
             bytes: own,
         };
         lines::put_line(table, self.edition, i, line);
-        rules::check_table(self.size as usize, own)
+        rules::check_table(Wiring::Cube, self.size as usize, own)
     }
 }
 

@@ -11,8 +11,9 @@ use Rattle.lists.specs.Refusal.{number_of_result}
 use Rattle.lists.proofs.BoolLaws.{by_bool, least-same}
 use Rattle.lists.proofs.RefusalLaws.{and_same}
 use Rattle.std.proofs.lemmas.List.Elements.{All-head, All-tail}
-use Rattle.table.specs.Rules.{numbered_table_check}
+use Rattle.table.specs.Rules.{table_check}
 use Rattle.table.proofs.Accepting.{Accepted, accepted, table_ok}
+use Rattle.table.specs.declared.wiring.Wiring.{Wiring}
 use Rattle.plant.specs.Turn.{kind_turn}
 use Rattle.plant.specs.Entry.{Entry, State, entry_of, tally_full, entry_refusal}
 use Rattle.plant.proofs.RulesKept.{accepted-kept}
@@ -25,11 +26,11 @@ use Rattle.granter.proofs.DriveLaws.{not_stopped, next-taken, drive-made}
 use Rattle.granter.proofs.Stops.{drive-stops}
 use Rattle.detection.specs.Driven.{RunOrDrive, a_run, a_drive, after_one, after_mixed}
 use Rattle.detection.proofs.DriveRuns.{driving-at}
-use Rattle.dead_lines.specs.Alike.{Alike, StayAlike, SameDrive, IsOn, wiring_given, GrantOfAlike, DriveOfAlike, answer_of, answers_of, MixedOfAlike}
+use Rattle.dead_lines.specs.Alike.{Alike, StayAlike, SameDrive, wiring_given, GrantOfAlike, DriveOfAlike, answer_of, answers_of, MixedOfAlike}
 use Rattle.dead_lines.proofs.Writes.{Twins, Step, still, then}
 use Rattle.dead_lines.proofs.TurnAlike.{some-live-same, finished-same}
 use Rattle.dead_lines.proofs.RunAlike.{Both, refusal-same, after-step, after-both, alike-both, size-is}
-use Rattle.dead_lines.proofs.RunAlike.{tables-checked, stays, stay-still, stay-then, run-of-alike}
+use Rattle.dead_lines.proofs.RunAlike.{tables-checked, stays, stay-still, stay-then, call-of-alike}
 
 -- who is granted goes by who waits
 module _ (n : ℕ) (t u : List ℕ) (tw : Twins n t u) where
@@ -45,29 +46,29 @@ module _ (n : ℕ) (t u : List ℕ) (tw : Twins n t u) where
   granted-same last = rw (first-same (following last), first-same 0)
 
 -- a grant of any size
-module _ (w n : ℕ) (s r : State) (a : Alike w n s r) (v m last : ℕ) (on : IsOn w v) where
+module _ (w : Wiring) (n : ℕ) (s r : State) (a : Alike w n s r) (m last : ℕ) where
   tables : Twins n s.table r.table
   tables = (alike-both w n s r a).tables
 
-  grant-checked : grant_check v m s.table last ≡ grant_check v m r.table last
+  grant-checked : grant_check w m s.table last ≡ grant_check w m r.table last
   unfolding grant_check
   grant-checked =
-      rw (tables-checked w n s r a v m on)
-      (and_same (numbered_table_check v m r.table) _ _
-      (λ ok. rw (size-is w n s r a m (sym (table_ok v m r.table tt ok).long), some-live-same n s.table r.table tables)))
+      rw (tables-checked w n s r a m)
+      (and_same (table_check w m r.table) _ _
+      (λ ok. rw (size-is w n s r a m (sym (table_ok w m r.table tt ok).long), some-live-same n s.table r.table tables)))
 
-  grant-same : grant_answer v m s.table last ≡ grant_answer v m r.table last
+  grant-same : grant_answer w m s.table last ≡ grant_answer w m r.table last
   unfolding grant_answer
   grant-same =
       rw grant-checked
-      (and_same (grant_check v m r.table last) _ _
-      (λ ok. rw (size-is w n s r a m (sym (grant_ok v m r.table last tt ok).ok.long), granted-same n s.table r.table tables last)))
+      (and_same (grant_check w m r.table last) _ _
+      (λ ok. rw (size-is w n s r a m (sym (grant_ok w m r.table last tt ok).ok.long), granted-same n s.table r.table tables last)))
 
 pub grant-of-alike : GrantOfAlike
 grant-of-alike = grant-same
 
 -- where two drives stand after k grants
-record Grants (w n : ℕ) (p q : Stand) (k : ℕ) : Type 0 where
+record Grants (w : Wiring) (n : ℕ) (p q : Stand) (k : ℕ) : Type 0 where
   both : Both n (after_grants w n p k).state (after_grants w n q k).state
   last : (after_grants w n p k).last ≡ (after_grants w n q k).last
   ok : Accepted w n (after_grants w n p k).state.table
@@ -75,7 +76,7 @@ record Grants (w n : ℕ) (p q : Stand) (k : ℕ) : Type 0 where
   step : Step n p.state.table q.state.table (after_grants w n p k).state.table (after_grants w n q k).state.table
 
 -- a grant and its turn more
-next-grants : (w n : ℕ) (p q : Stand) (k : ℕ) → Grants w n p q k
+next-grants : (w : Wiring) (n : ℕ) (p q : Stand) (k : ℕ) → Grants w n p q k
     → entry_refusal n (after_grants w n p k).state (entry_of kind_turn (granted_at n (after_grants w n p k))) ≡ 0 → Grants w n p q (suc k)
 unfolding after_grants grant_turn
 next-grants w n p q k x taken =
@@ -100,7 +101,7 @@ next-grants w n p q k x taken =
     same = granted-same n before.table other.table x.both.tables (after_grants w n p k).last ∙ ap (granted n other.table) x.last
 
 -- a drive that is not refused
-module _ (w n : ℕ) (s r : State) (a : Alike w n s r) (last : ℕ) (z : grant_refusal w n s.table last ≡ 0) where
+module _ (w : Wiring) (n : ℕ) (s r : State) (a : Alike w n s r) (last : ℕ) (z : grant_refusal w n s.table last ≡ 0) where
   abbrev p : Stand
   p = stand_at s last
 
@@ -157,39 +158,39 @@ module _ (w n : ℕ) (s r : State) (a : Alike w n s r) (last : ℕ) (z : grant_r
 
   drive-same : SameDrive w n s r (drive w n s last) (drive w n r last)
   drive-same =
-      let z' : grant_refusal w n r.table last ≡ 0 = sym (ap number_of_result (grant-checked w n s r a w n last (λ _. refl))) ∙ z in
+      let z' : grant_refusal w n r.table last ≡ 0 = sym (ap number_of_result (grant-checked w n s r a n last)) ∙ z in
       rw (← drive-made w n s last made z stop, ← drive-made w n r last made z' other-stop) made-same
 
-refused : (w n : ℕ) (s r : State) → Alike w n s r → (number last : ℕ)
+refused : (w : Wiring) (n : ℕ) (s r : State) → Alike w n s r → (number last : ℕ)
     → SameDrive w n s r (drive_outcome number s last 0) (drive_outcome number r last 0)
 refused w n s r a number last = record { answer = rw (a.rounds, a.tests); left = stay-still w n s r a }
 
 -- a drive, an end in itself
 pub drive-of-alike : DriveOfAlike
 unfolding drive
-drive-of-alike w n s r a v m last on =
-    by_bool (eqb (grant_refusal v m s.table last) 0)
+drive-of-alike w n s r a m last =
+    by_bool (eqb (grant_refusal w m s.table last) 0)
     (λ t.
-    let z : grant_refusal v m s.table last ≡ 0 = eqb-true _ 0 t in
-    let z' : grant_refusal v m r.table last ≡ 0 = sym (ap number_of_result (grant-checked w n s r a v m last on)) ∙ z in
-    let same : m ≡ n = size-is w n s r a m (sym (grantable v m r.table last z').ok.long) in
-    rw (on (grantable v m r.table last z').ok.wired, same) (drive-same w n s r a last (rw (on (grantable v m r.table last z').ok.wired, same) at z)))
+    let z : grant_refusal w m s.table last ≡ 0 = eqb-true _ 0 t in
+    let z' : grant_refusal w m r.table last ≡ 0 = sym (ap number_of_result (grant-checked w n s r a m last)) ∙ z in
+    let same : m ≡ n = size-is w n s r a m (sym (grantable w m r.table last z').ok.long) in
+    rw same (drive-same w n s r a last (rw same at z)))
     (λ t. turned-away t)
   where
-    turned-away : eqb (grant_refusal v m s.table last) 0 ≡ false → SameDrive w n s r (drive v m s last) (drive v m r last)
-    turned-away t = rw (← grant-checked w n s r a v m last on, t) (refused w n s r a (grant_refusal v m s.table last) last)
+    turned-away : eqb (grant_refusal w m s.table last) 0 ≡ false → SameDrive w n s r (drive w m s last) (drive w m r last)
+    turned-away t = rw (← grant-checked w n s r a m last, t) (refused w n s r a (grant_refusal w m s.table last) last)
 
 -- one of a mixed list
-one-same : (w n : ℕ) (s r : State) → Alike w n s r → (x : RunOrDrive) → IsOn w (wiring_given x)
+one-same : (w : Wiring) (n : ℕ) (s r : State) → Alike w n s r → (x : RunOrDrive) → wiring_given x ≡ w
     → (answer_of s x ≡ answer_of r x) × StayAlike w n s r (after_one s x) (after_one r x)
-one-same w n s r a (a_run c) on = let f = run-of-alike w n s r a c.wiring c.size c.schedule c.sheet on in (f.answer, f.left)
-one-same w n s r a (a_drive v m last) on = let f = drive-of-alike w n s r a v m last on in (f.answer, f.left)
+one-same w n s r a (a_run c) on = let f = call-of-alike w n s r a c on in (f.answer, f.left)
+one-same w n s r a (a_drive v m last) on = rw on (let f = drive-of-alike w n s r a m last in (f.answer, f.left))
 
 -- a mixed list, an end in itself
 pub mixed-of-alike : MixedOfAlike
 unfolding answers_of after_mixed
 mixed-of-alike w n s r a [] on = (refl, stay-still w n s r a)
 mixed-of-alike w n s r a (x ∷ xs) on =
-    let one = one-same w n s r a x (All-head (λ (x : RunOrDrive). IsOn w (wiring_given x)) x xs on) in
-    let rest = mixed-of-alike w n (after_one s x) (after_one r x) one.1.alike xs (All-tail (λ (x : RunOrDrive). IsOn w (wiring_given x)) x xs on) in
+    let one = one-same w n s r a x (All-head (λ (x : RunOrDrive). wiring_given x ≡ w) x xs on) in
+    let rest = mixed-of-alike w n (after_one s x) (after_one r x) one.1.alike xs (All-tail (λ (x : RunOrDrive). wiring_given x ≡ w) x xs on) in
     (ap₂ ◌∷◌ one.0 rest.0, stay-then one.1 rest.1)

@@ -13,10 +13,10 @@ use Rattle.lists.specs.Refusal.{number_of_result}
 use Rattle.lists.proofs.BoolLaws.{by_bool}
 use Rattle.lists.proofs.RefusalLaws.{and_same}
 use Rattle.std.proofs.lemmas.List.Elements.{All-head, All-tail}
-use Rattle.table.specs.Wiring.{wiring_check}
 use Rattle.table.specs.Table.{table_length, finished_column, live}
-use Rattle.table.specs.Rules.{round_over, shape_check, table_check_on, numbered_table_check, numbered_table_refusal}
+use Rattle.table.specs.Rules.{round_over, shape_check, table_check, table_refusal}
 use Rattle.table.proofs.Accepting.{accepted, shape_ok}
+use Rattle.table.specs.declared.wiring.Wiring.{Wiring}
 use Rattle.plant.specs.Round.{after_round}
 use Rattle.plant.specs.Entry.{Entry, State, entry_check, entry_refusal, acted, after, sheet_line}
 use Rattle.plant.specs.Run.{RunResult, entries, write_line, go_on, start_check, start_refusal, run}
@@ -24,7 +24,7 @@ use Rattle.plant.proofs.RulesKept.{Takes, entry-facts, run-keeps-rules}
 use Rattle.plant.proofs.RunLaws.{start-facts}
 use Rattle.detection.specs.Runs.{Call, after_run, after_runs}
 use Rattle.detection.proofs.Chain.{size-unique}
-use Rattle.dead_lines.specs.Alike.{Alike, StayAlike, IsOn, RunOfAlike, answers_of_runs, RunsOfAlike}
+use Rattle.dead_lines.specs.Alike.{Alike, StayAlike, SameRun, RunOfAlike, answers_of_runs, RunsOfAlike}
 use Rattle.dead_lines.proofs.Writes.{Twins, Step, still, then, twins-after, line-after, closing}
 use Rattle.dead_lines.proofs.TurnAlike.{live-same, over-same, acted-step, test-same, tested-same, outcome-of-same}
 
@@ -50,7 +50,7 @@ module _ (n : ℕ) (s r : State) (b : Both n s r) (e : Entry) where
   refusal-same = ap number_of_result check-same
 
   -- one that is taken
-  module _ (w : ℕ) (z : entry_refusal n s e ≡ 0) where
+  module _ (w : Wiring) (z : entry_refusal n s e ≡ 0) where
     takes : Takes n s e
     takes = entry-facts n s e z
 
@@ -103,7 +103,8 @@ further : {n : ℕ} {s r s' r' : State} {a b : RunResult} → Step n s.table r.t
 further one rest =
     record { number = rest.number; taken = rest.taken; sheet = rest.sheet; rounds = rest.rounds; tests = rest.tests; step = then one rest.step }
 
-run-on : (w n k : ℕ) (s r : State) (sheet : List ℕ) (es : List Entry) → Both n s r → SameFrom n s r (go_on w n k s sheet es) (go_on w n k r sheet es)
+run-on : (w : Wiring) (n k : ℕ) (s r : State) (sheet : List ℕ) (es : List Entry) → Both n s r
+    → SameFrom n s r (go_on w n k s sheet es) (go_on w n k r sheet es)
 unfolding go_on
 run-on w n k s r sheet [] b = stopped n s r b 0 k sheet
 run-on w n k s r sheet (e ∷ es) b =
@@ -115,7 +116,7 @@ run-on w n k s r sheet (e ∷ es) b =
     (λ t. rw (← refusal-same n s r b e, t) (stopped n s r b (entry_refusal n s e) k sheet))
 
 -- alike tables and tallies
-module _ (w n : ℕ) (s r : State) (a : Alike w n s r) where
+module _ (w : Wiring) (n : ℕ) (s r : State) (a : Alike w n s r) where
   pub long-alike : length s.table ≡ table_length n
   long-alike = (accepted w n s.table a.valid).long
 
@@ -138,50 +139,48 @@ module _ (w n : ℕ) (s r : State) (a : Alike w n s r) where
   pub size-is : (m : ℕ) → table_length m ≡ length r.table → m ≡ n
   size-is m fits = size-unique m n (fits ∙ alike-both.tables.other_long)
 
-  -- a call on this wiring, of any size, finds the same of refusals 24 and 1 to 4: one of another size by the length alone
-  pub tables-checked : (v m : ℕ) → IsOn w v → numbered_table_check v m s.table ≡ numbered_table_check v m r.table
-  unfolding table_check_on
-  tables-checked v m on =
-      and_same (wiring_check v) _ _
-      (λ known.
-      rw (on known, same-length)
+  -- a call on this wiring, of any size, finds the same of refusals 1 to 4: one of another size by the length alone
+  pub tables-checked : (m : ℕ) → table_check w m s.table ≡ table_check w m r.table
+  unfolding table_check
+  tables-checked m =
+      rw same-length
       (and_same (shape_check m (length r.table)) _ _
       (λ ok.
       let p = accepted w n s.table a.valid in
       let q = accepted w n r.table a.other_valid in
-      rw (size-is m (sym (shape_ok m (length r.table) tt ok).1), p.lines, p.unclosed, q.lines, q.unclosed))))
+      rw (size-is m (sym (shape_ok m (length r.table) tt ok).1), p.lines, p.unclosed, q.lines, q.unclosed)))
 
-  started : (v m x y : ℕ) → IsOn w v → start_check v m s.table x y ≡ start_check v m r.table x y
+  started : (m x y : ℕ) → start_check w m s.table x y ≡ start_check w m r.table x y
   unfolding start_check
-  started v m x y on = rw (tables-checked v m on)
+  started m x y = rw (tables-checked m)
 
-  run-same : (v m : ℕ) (schedule sheet : List ℕ) → IsOn w v → SameFrom n s r (run v m s schedule sheet) (run v m r schedule sheet)
+  run-same : (m : ℕ) (schedule sheet : List ℕ) → SameFrom n s r (run w m s schedule sheet) (run w m r schedule sheet)
   unfolding run
-  run-same v m schedule sheet on =
-      by_bool (eqb (start_refusal v m s.table (length schedule) (length sheet)) 0)
+  run-same m schedule sheet =
+      by_bool (eqb (start_refusal w m s.table (length schedule) (length sheet)) 0)
       (λ t.
-      let fits = (start-facts v m s.table (length schedule) (length sheet) (eqb-true _ 0 t)).0 in
-      rw (← started v m (length schedule) (length sheet) on, t, on fits.wired, size-is m (sym fits.long ∙ same-length))
+      let fits = (start-facts w m s.table (length schedule) (length sheet) (eqb-true _ 0 t)).0 in
+      rw (← started m (length schedule) (length sheet), t, size-is m (sym fits.long ∙ same-length))
       (run-on w n 0 s r sheet (entries schedule) alike-both))
       (λ t.
-      rw (← started v m (length schedule) (length sheet) on, t)
-      (stopped n s r alike-both (start_refusal v m s.table (length schedule) (length sheet)) 0 sheet))
+      rw (← started m (length schedule) (length sheet), t)
+      (stopped n s r alike-both (start_refusal w m s.table (length schedule) (length sheet)) 0 sheet))
 
 -- a run of any size keeps the rules of size n
-still-valid : (w n : ℕ) (s : State) → numbered_table_refusal w n s.table ≡ 0 → (v m : ℕ) (schedule sheet : List ℕ) → IsOn w v
-    → numbered_table_refusal w n (run v m s schedule sheet).state.table ≡ 0
+still-valid : (w : Wiring) (n : ℕ) (s : State) → table_refusal w n s.table ≡ 0 → (m : ℕ) (schedule sheet : List ℕ)
+    → table_refusal w n (run w m s schedule sheet).state.table ≡ 0
 unfolding run
-still-valid w n s z v m schedule sheet on =
-    by_bool (eqb (start_refusal v m s.table (length schedule) (length sheet)) 0)
+still-valid w n s z m schedule sheet =
+    by_bool (eqb (start_refusal w m s.table (length schedule) (length sheet)) 0)
     (λ t.
-    let fits = (start-facts v m s.table (length schedule) (length sheet) (eqb-true _ 0 t)).0 in
+    let fits = (start-facts w m s.table (length schedule) (length sheet) (eqb-true _ 0 t)).0 in
     let same : m ≡ n = size-unique m n (sym fits.long ∙ (accepted w n s.table z).long) in
-    rw (on fits.wired, same) (run-keeps-rules w n s schedule sheet z))
+    rw same (run-keeps-rules w n s schedule sheet z))
     (λ t. rw t z)
 
 -- what stays alike
-pub stays : (w n : ℕ) (s r s' r' : State) → Both n s r → Step n s.table r.table s'.table r'.table → numbered_table_refusal w n s'.table ≡ 0
-    → numbered_table_refusal w n r'.table ≡ 0 → s'.rounds ≡ r'.rounds → s'.tests ≡ r'.tests → StayAlike w n s r s' r'
+pub stays : (w : Wiring) (n : ℕ) (s r s' r' : State) → Both n s r → Step n s.table r.table s'.table r'.table → table_refusal w n s'.table ≡ 0
+    → table_refusal w n r'.table ≡ 0 → s'.rounds ≡ r'.rounds → s'.tests ≡ r'.tests → StayAlike w n s r s' r'
 stays w n s r s' r' b step z z' rounds tests =
     let tw = twins-after b.tables step in
     record {
@@ -189,28 +188,33 @@ stays w n s r s' r' b step z z' rounds tests =
       lines = line-after step;
     }
 
-pub stay-still : (w n : ℕ) (s r : State) → Alike w n s r → StayAlike w n s r s r
+pub stay-still : (w : Wiring) (n : ℕ) (s r : State) → Alike w n s r → StayAlike w n s r s r
 stay-still w n s r a = record { alike = a; lines = λ i h line. line }
 
-pub stay-then : {w n : ℕ} {s r s' r' s'' r'' : State} → StayAlike w n s r s' r' → StayAlike w n s' r' s'' r'' → StayAlike w n s r s'' r''
+pub stay-then : {w : Wiring} {n : ℕ} {s r s' r' s'' r'' : State} → StayAlike w n s r s' r' → StayAlike w n s' r' s'' r'' → StayAlike w n s r s'' r''
 stay-then one two = record { alike = two.alike; lines = λ i h line. two.lines i h (one.lines i h line) }
 
 -- a run, an end in itself
 pub run-of-alike : RunOfAlike
-run-of-alike w n s r a v m schedule sheet on =
-    let f = run-same w n s r a v m schedule sheet on in
+run-of-alike w n s r a m schedule sheet =
+    let f = run-same w n s r a m schedule sheet in
     record {
       answer = rw (f.number, f.taken, f.rounds, f.tests, f.sheet);
       left =
-          stays w n s r _ _ (alike-both w n s r a) f.step (still-valid w n s a.valid v m schedule sheet on)
-          (still-valid w n r a.other_valid v m schedule sheet on) f.rounds f.tests;
+          stays w n s r _ _ (alike-both w n s r a) f.step (still-valid w n s a.valid m schedule sheet)
+          (still-valid w n r a.other_valid m schedule sheet) f.rounds f.tests;
     }
+
+-- a run of a list
+pub call-of-alike : (w : Wiring) (n : ℕ) (s r : State) → Alike w n s r → (c : Call) → c.wiring ≡ w
+    → SameRun w n s r (run c.wiring c.size s c.schedule c.sheet) (run c.wiring c.size r c.schedule c.sheet)
+call-of-alike w n s r a c on = rw on (run-of-alike w n s r a c.size c.schedule c.sheet)
 
 -- a list of runs, an end in itself
 pub runs-of-alike : RunsOfAlike
 unfolding answers_of_runs after_runs
 runs-of-alike w n s r a [] on = (refl, stay-still w n s r a)
 runs-of-alike w n s r a (c ∷ cs) on =
-    let one = run-of-alike w n s r a c.wiring c.size c.schedule c.sheet (All-head (λ (c : Call). IsOn w c.wiring) c cs on) in
-    let rest = runs-of-alike w n (after_run s c) (after_run r c) one.left.alike cs (All-tail (λ (c : Call). IsOn w c.wiring) c cs on) in
+    let one = call-of-alike w n s r a c (All-head (λ (c : Call). c.wiring ≡ w) c cs on) in
+    let rest = runs-of-alike w n (after_run s c) (after_run r c) one.left.alike cs (All-tail (λ (c : Call). c.wiring ≡ w) c cs on) in
     (ap₂ ◌∷◌ one.answer rest.0, stay-then one.left rest.1)

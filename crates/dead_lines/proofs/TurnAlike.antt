@@ -15,6 +15,7 @@ use Rattle.table.specs.Table.{head, table_length, status_column, next_column, fi
 use Rattle.table.specs.Table.{told_by_column, tests_made, live, row, status_told, status_alone, status_crashed}
 use Rattle.table.specs.Rules.{not_live, some_live, finished_if_live, live_finished, round_over}
 use Rattle.table.proofs.CellLaws.{row_same, row-length}
+use Rattle.table.specs.declared.wiring.Wiring.{Wiring}
 use Rattle.station.specs.Wired.{wired_station}
 use Rattle.station.specs.Rows.{union, mark}
 use Rattle.station.proofs.UnionLaws.{union-length, mark-length}
@@ -60,7 +61,7 @@ module _ (n : ℕ) (t u : List ℕ) (tw : Twins n t u) where
   over-same = ap₂ ◌&&◌ some-live-same (every-same (finished_if_live n t) (finished_if_live n u) n finished-same)
 
 -- station i tests station j, or ends its pass
-module _ (w n : ℕ) (t u : List ℕ) (tw : Twins n t u) (i : ℕ) (h : i < n) (alive : live n t i ≡ true) where
+module _ (w : Wiring) (n : ℕ) (t u : List ℕ) (tw : Twins n t u) (i : ℕ) (h : i < n) (alive : live n t i ≡ true) where
   line : SameLine n t u i
   line = tw.live_lines i h alive
 
@@ -158,7 +159,7 @@ module _ (n : ℕ) (t u : List ℕ) (tw : Twins n t u) (i j : ℕ) (h : i < n) (
   exchanged kind e = by_bool (replies n t kind j) (replied kind) (λ r. let z : ◌≡◌ {A = ℕ} 3 1 = rw r at e in absurd (omega arith))
 
 -- a whole turn of i
-module _ (w n : ℕ) (t u : List ℕ) (tw : Twins n t u) (i : ℕ) (h : i < n) (alive : live n t i ≡ true) (kind : ℕ) where
+module _ (w : Wiring) (n : ℕ) (t u : List ℕ) (tw : Twins n t u) (i : ℕ) (h : i < n) (alive : live n t i ≡ true) (kind : ℕ) where
   module _ (makes : makes_test w n t i ≡ true) where
     abbrev m : ℕ
     m = next_test w n t i
@@ -214,7 +215,7 @@ module _ (w n : ℕ) (t u : List ℕ) (tw : Twins n t u) (i : ℕ) (h : i < n) (
       (λ e. rw (← makes-same w n t u tw i h alive, e))
 
 -- what an entry of a live station does
-module _ (w n : ℕ) (t u : List ℕ) (tw : Twins n t u) (e : Entry) (h : e.station < n) (alive : live n t e.station ≡ true) where
+module _ (w : Wiring) (n : ℕ) (t u : List ℕ) (tw : Twins n t u) (e : Entry) (h : e.station < n) (alive : live n t e.station ≡ true) where
   pub acted-step : Step n t u (acted w n t e) (acted w n u e)
   unfolding acted crash
   acted-step =

@@ -1,10 +1,10 @@
 -- That the lines of stations that are not live matter to no run, grant or drive. s and r are two tables, each with its tally, to which the same is
 -- done; s' and r' are what is left of them.
 -- Assumes nothing.
-use Rattle.std.specs.Prelude.{ℕ, ◌<◌, ◌≡◌, true, List, [], ◌∷◌, All, Ok}
-use Rattle.table.specs.Wiring.{wiring_check}
+use Rattle.std.specs.Prelude.{ℕ, ◌<◌, ◌≡◌, true, List, [], ◌∷◌, All}
 use Rattle.table.specs.Table.{stride, cell, status, live}
-use Rattle.table.specs.Rules.{numbered_table_refusal}
+use Rattle.table.specs.Rules.{table_refusal}
+use Rattle.table.specs.declared.wiring.Wiring.{Wiring}
 use Rattle.plant.specs.Entry.{State}
 use Rattle.plant.specs.Run.{RunResult, run}
 use Rattle.granter.specs.Grant.{grant_answer}
@@ -16,17 +16,17 @@ use Rattle.detection.specs.Driven.{RunOrDrive, a_run, a_drive, after_one, after_
 abbrev pub SameLine : ℕ → List ℕ → List ℕ → ℕ → Type 0
 SameLine n t u i = (c : ℕ) → c < stride n → cell n t i c ≡ cell n u i c
 
--- Rule Dead lines, its conditions: refusals 24 and 1 to 4 let both tables through on the wiring w, and statuses, live lines and tally are equal
-pub record Alike (w n : ℕ) (s r : State) : Type 0 where
-  pub valid : numbered_table_refusal w n s.table ≡ 0
-  pub other_valid : numbered_table_refusal w n r.table ≡ 0
+-- Rule Dead lines, its conditions: refusals 1 to 4 let both tables through on the wiring w, and statuses, live lines and tally are equal
+pub record Alike (w : Wiring) (n : ℕ) (s r : State) : Type 0 where
+  pub valid : table_refusal w n s.table ≡ 0
+  pub other_valid : table_refusal w n r.table ≡ 0
   pub statuses : (i : ℕ) → i < n → status n s.table i ≡ status n r.table i
   pub live_lines : (i : ℕ) → i < n → live n s.table i ≡ true → SameLine n s.table r.table i
   pub rounds : s.rounds ≡ r.rounds
   pub tests : s.tests ≡ r.tests
 
 -- Rule Dead lines: so it is afterwards. Each line that was the same in both is so still: of a station that left meanwhile the whole line
-pub record StayAlike (w n : ℕ) (s r s' r' : State) : Type 0 where
+pub record StayAlike (w : Wiring) (n : ℕ) (s r s' r' : State) : Type 0 where
   pub alike : Alike w n s' r'
   pub lines : (i : ℕ) → i < n → SameLine n s.table r.table i → SameLine n s'.table r'.table i
 
@@ -42,33 +42,29 @@ abbrev pub drive_answer : DriveResult → Answer
 drive_answer o = of_drive o.number o.state.rounds o.state.tests o.last o.grants
 
 -- two runs, or two drives, answer the same, and their tables stay alike
-pub record SameRun (w n : ℕ) (s r : State) (a b : RunResult) : Type 0 where
+pub record SameRun (w : Wiring) (n : ℕ) (s r : State) (a b : RunResult) : Type 0 where
   pub answer : run_answer a ≡ run_answer b
   pub left : StayAlike w n s r a.state b.state
 
-pub record SameDrive (w n : ℕ) (s r : State) (a b : DriveResult) : Type 0 where
+pub record SameDrive (w : Wiring) (n : ℕ) (s r : State) (a b : DriveResult) : Type 0 where
   pub answer : drive_answer a ≡ drive_answer b
   pub left : StayAlike w n s r a.state b.state
-
--- a run, a grant or a drive with wiring number v is on wiring w, if refusal 24 lets it through
-abbrev pub IsOn : ℕ → ℕ → Type 0
-IsOn w v = wiring_check v ≡ Ok tt → v ≡ w
 
 -- Rule Dead lines, of a run on that wiring: of any size, schedule and run sheet. One of another size than the tables' is refused
 abbrev pub RunOfAlike : Type 0
 RunOfAlike =
-    (w n : ℕ) (s r : State) → Alike w n s r → (v m : ℕ) (schedule sheet : List ℕ) → IsOn w v
-    → SameRun w n s r (run v m s schedule sheet) (run v m r schedule sheet)
+    (w : Wiring) (n : ℕ) (s r : State) → Alike w n s r → (m : ℕ) (schedule sheet : List ℕ)
+    → SameRun w n s r (run w m s schedule sheet) (run w m r schedule sheet)
 
 -- Rule Dead lines, of a grant: the same station, or the same refusal
 abbrev pub GrantOfAlike : Type 0
 GrantOfAlike =
-    (w n : ℕ) (s r : State) → Alike w n s r → (v m last : ℕ) → IsOn w v → grant_answer v m s.table last ≡ grant_answer v m r.table last
+    (w : Wiring) (n : ℕ) (s r : State) → Alike w n s r → (m last : ℕ) → grant_answer w m s.table last ≡ grant_answer w m r.table last
 
 -- Rule Dead lines, of a drive
 abbrev pub DriveOfAlike : Type 0
 DriveOfAlike =
-    (w n : ℕ) (s r : State) → Alike w n s r → (v m last : ℕ) → IsOn w v → SameDrive w n s r (drive v m s last) (drive v m r last)
+    (w : Wiring) (n : ℕ) (s r : State) → Alike w n s r → (m last : ℕ) → SameDrive w n s r (drive w m s last) (drive w m r last)
 
 -- the answers of a list of runs, one behind the other, and of one that mixes runs and drives
 unfoldable pub answers_of_runs : State → List Call → List Answer
@@ -83,26 +79,26 @@ unfoldable pub answers_of : State → List RunOrDrive → List Answer
 answers_of s [] = []
 answers_of s (x ∷ xs) = answer_of s x ∷ answers_of (after_one s x) xs
 
--- the wiring number of one of a mixed list
-abbrev pub wiring_given : RunOrDrive → ℕ
+-- the wiring of one of a mixed list
+abbrev pub wiring_given : RunOrDrive → Wiring
 wiring_given (a_run c) = c.wiring
 wiring_given (a_drive w n last) = w
 
 -- the list does not mix wirings
-abbrev pub RunsOn : ℕ → List Call → Type 0
-RunsOn w calls = All (λ c. IsOn w c.wiring) calls
+abbrev pub RunsOn : Wiring → List Call → Type 0
+RunsOn w calls = All (λ c. c.wiring ≡ w) calls
 
-abbrev pub MixedOn : ℕ → List RunOrDrive → Type 0
-MixedOn w xs = All (λ x. IsOn w (wiring_given x)) xs
+abbrev pub MixedOn : Wiring → List RunOrDrive → Type 0
+MixedOn w xs = All (λ x. wiring_given x ≡ w) xs
 
 -- Rule Dead lines, of a list of runs
 abbrev pub RunsOfAlike : Type 0
 RunsOfAlike =
-    (w n : ℕ) (s r : State) → Alike w n s r → (calls : List Call) → RunsOn w calls
+    (w : Wiring) (n : ℕ) (s r : State) → Alike w n s r → (calls : List Call) → RunsOn w calls
     → (answers_of_runs s calls ≡ answers_of_runs r calls) × StayAlike w n s r (after_runs s calls) (after_runs r calls)
 
 -- Rule Dead lines, of a list that mixes runs and drives
 abbrev pub MixedOfAlike : Type 0
 MixedOfAlike =
-    (w n : ℕ) (s r : State) → Alike w n s r → (xs : List RunOrDrive) → MixedOn w xs
+    (w : Wiring) (n : ℕ) (s r : State) → Alike w n s r → (xs : List RunOrDrive) → MixedOn w xs
     → (answers_of s xs ≡ answers_of r xs) × StayAlike w n s r (after_mixed s xs) (after_mixed r xs)

@@ -1,10 +1,10 @@
 -- Two alike tables of four stations on the cube, computed; and what a run does where one of the conditions fails.
 -- Assumes nothing.
 use Rattle.std.specs.Prelude.{ℕ, ◌≡◌, List, [], ◌∷◌}
-use Rattle.table.specs.Wiring.{wiring_cube}
 use Rattle.plant.specs.Entry.{state_of}
 use Rattle.plant.specs.Run.{run}
 use Rattle.dead_lines.specs.Alike.{Alike, Answer, of_run, run_answer}
+use Rattle.table.specs.declared.wiring.Wiring.TheVariants.{Cube}
 
 -- the table of the worked run in RULES: station 1 left because told by 0
 abbrev pub worked : List ℕ
@@ -64,15 +64,15 @@ other_after =
 
 -- Rule Each condition is needed: all are met by tables that differ, and the run writes the same sheet
 pub record WorkedPair : Type 0 where
-  pub alike : Alike wiring_cube 4 (state_of worked 0 4) (state_of other 0 4)
-  pub first : run wiring_cube 4 (state_of worked 0 4) schedule blank
+  pub alike : Alike Cube 4 (state_of worked 0 4) (state_of other 0 4)
+  pub first : run Cube 4 (state_of worked 0 4) schedule blank
       ≡ record { number = 0; taken = 7; state = state_of worked_after 1 8; sheet = sheet }
-  pub second : run wiring_cube 4 (state_of other 0 4) schedule blank
+  pub second : run Cube 4 (state_of other 0 4) schedule blank
       ≡ record { number = 0; taken = 7; state = state_of other_after 1 8; sheet = sheet }
 
 -- what the turn of station 0 answers and writes, of two stations
 abbrev pub turn_of_0 : List ℕ → Answer
-turn_of_0 t = run_answer (run wiring_cube 2 (state_of t 0 0) (1 ∷ 0 ∷ []) (0 ∷ 0 ∷ 0 ∷ 0 ∷ []))
+turn_of_0 t = run_answer (run Cube 2 (state_of t 0 0) (1 ∷ 0 ∷ []) (0 ∷ 0 ∷ 0 ∷ 0 ∷ []))
 
 -- two stations, fresh; the same where 0 suspects 1; where 1 has crashed; and where its line breaks a line rule too, by a next distance of 0
 abbrev pub both_live : List ℕ

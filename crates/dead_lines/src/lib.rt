@@ -1,6 +1,6 @@
 // What is claimed of the lines of stations that are not live (specs/Alike.antt): two valid tables with equal statuses and equal live lines give the
 // same answers and run sheets, whatever their other lines hold. The claims are laws of the definitions `run` and `drive`. The functions do nothing:
-// their clauses are the claims, and the last a computed pair of such tables.
+// their clauses are the claims. Those of `examples` are computed.
 #![tactic(auto)]
 
 ghost use Rattle.dead_lines.specs.Alike.{RunOfAlike, GrantOfAlike, DriveOfAlike, RunsOfAlike, MixedOfAlike};

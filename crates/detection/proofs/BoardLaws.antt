@@ -11,7 +11,6 @@ use Rattle.std.specs.List.{range_with_len}
 use Rattle.lists.specs.Sums.{bit}
 use Rattle.station.specs.Groups.{station_at}
 use Rattle.table.specs.Sizes.{distances}
-use Rattle.table.specs.Wiring.{wiring_cube}
 use Rattle.table.specs.Table.{live}
 use Rattle.table.specs.Rules.{not_live}
 use Rattle.station.specs.Tests.{due, due_distances}
@@ -24,6 +23,7 @@ use Rattle.detection.specs.Runs.{Call, taken_all, after_runs}
 use Rattle.detection.specs.Rounds.{cut}
 use Rattle.detection.specs.Claim.{rounds_of, DetectionPremises}
 use Rattle.table.specs.Properties.{exact_row, ExactRows}
+use Rattle.table.specs.declared.wiring.Wiring.TheVariants.{Cube}
 use Rattle.detection.specs.Boards.{TestsAreTheDue, ExactRoundTests, ExactRoundTestsAfterLatency}
 use Rattle.detection.proofs.Chain.{on-wiring, chain-all, chain_first}
 use Rattle.detection.proofs.TurnEffect.{Plain, Exact}
@@ -41,23 +41,23 @@ exact-list n T i =
     (range_with_len 0 (distances n))
 
 -- exact rows, byte by byte
-exact_bytes : (n : ℕ) (L : ℕ → Bool) (t : List ℕ) → Plain wiring_cube n L t → ExactRows n t → Exact n L t
+exact_bytes : (n : ℕ) (L : ℕ → Bool) (t : List ℕ) → Plain Cube n L t → ExactRows n t → Exact n L t
 unfolding exact_row
 exact_bytes n L t p rows i j hi hj li lj =
     sym (row_at n t i j hj) ∙ ap (λ (r : List ℕ). get_or r j 0) (rows i hi (p.lives i hi ∙ li)) ∙ list_of-at (λ j. bit (not_live n t j)) n j hj
     ∙ ap (λ b. bit (not b)) (p.lives j hj ∙ lj)
 
-module _ (n : ℕ) (s : State) (calls : List Call) (given : DetectionPremises wiring_cube n s calls) (k : ℕ)
+module _ (n : ℕ) (s : State) (calls : List Call) (given : DetectionPremises Cube n s calls) (k : ℕ)
     (closed : k < length (rounds_of s calls).closed) where
   abbrev L : ℕ → Bool
   L = live n s.table
 
   -- some round has closed, so that an entry was taken
-  accepted : Accepted wiring_cube n s.table
+  accepted : Accepted Cube n s.table
   unfolding cut
   accepted = go (chain_first (on-wiring (chain-all n s calls given.long) given.one_wiring))
     where
-      go : ((taken_all s calls ≡ []) × (after_runs s calls ≡ s)) ⊎ Accepted wiring_cube n s.table → Accepted wiring_cube n s.table
+      go : ((taken_all s calls ≡ []) × (after_runs s calls ≡ s)) ⊎ Accepted Cube n s.table → Accepted Cube n s.table
       go (inl e) = let none : length (rounds_of s calls).closed ≡ 0 = rw e.0 in absurd (omega (arith, none))
       go (inr ok) = ok
 

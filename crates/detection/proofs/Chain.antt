@@ -20,26 +20,29 @@ use Rattle.detection.specs.Runs.{Call, Taken, CountsTaken, after_run, after_runs
 use Rattle.detection.specs.Rounds.{all_taken}
 use Rattle.lists.proofs.BoolLaws.{by_bool}
 use Rattle.lists.proofs.SearchLaws.{both}
+use Rattle.table.specs.declared.wiring.Wiring.{Wiring}
 use Rattle.detection.proofs.TakenLaws.{taken_at}
+use Rattle.table.proofs.WiringLaws.{same-is}
+use Rattle.table.specs.Wiring.{same_wiring}
 
 -- entries taken one behind the other at size n, each on the wiring of its run, from a state to a state
 pub data Chain (n : ℕ) : State → List Taken → State → Type 0 where
   done : {s : State} → Chain n s [] s
-  more : {s s' : State} {xs : List Taken} (w : ℕ) (e : Entry) → Accepted w n s.table → entry_refusal n s e ≡ 0 → Chain n (after w n s e) xs s'
+  more : {s s' : State} {xs : List Taken} (w : Wiring) (e : Entry) → Accepted w n s.table → entry_refusal n s e ≡ 0 → Chain n (after w n s e) xs s'
       → Chain n s (taken_at w n s e ∷ xs) s'
 
 -- all on one wiring
-pub data WiredChain (w n : ℕ) : State → List Taken → State → Type 0 where
+pub data WiredChain (w : Wiring) (n : ℕ) : State → List Taken → State → Type 0 where
   ends : {s : State} → WiredChain w n s [] s
   next : {s s' : State} {xs : List Taken} (e : Entry) → Accepted w n s.table → entry_refusal n s e ≡ 0 → WiredChain w n (after w n s e) xs s'
       → WiredChain w n s (taken_at w n s e ∷ xs) s'
 
-pub on-wiring : {w n : ℕ} {s s' : State} {xs : List Taken} → Chain n s xs s' → all_taken (is_on w) xs ≡ true → WiredChain w n s xs s'
+pub on-wiring : {w : Wiring} {n : ℕ} {s s' : State} {xs : List Taken} → Chain n s xs s' → all_taken (is_on w) xs ≡ true → WiredChain w n s xs s'
 unfolding all_taken
 on-wiring done one = ends
 on-wiring {w} (more {xs = xs} v e a z c) one =
-    let p = both (eqb v w) (all_taken (is_on w) xs) one in
-    let same = eqb-true v w p.0 in
+    let p = both (same_wiring v w) (all_taken (is_on w) xs) one in
+    let same = same-is v w p.0 in
     rw same (next e (rw same at a) z (rw same at (on-wiring c p.1)))
 
 -- two chains, one behind the other
@@ -54,12 +57,12 @@ chain-long done long = long
 chain-long {n} (more {s} w e a z c) long = chain-long c (accepted-kept w n s e a z).long
 
 -- an entry is taken in an accepted table only
-pub chain_first : {w n : ℕ} {s s' : State} {xs : List Taken} → WiredChain w n s xs s' → ((xs ≡ []) × (s' ≡ s)) ⊎ Accepted w n s.table
+pub chain_first : {w : Wiring} {n : ℕ} {s s' : State} {xs : List Taken} → WiredChain w n s xs s' → ((xs ≡ []) × (s' ≡ s)) ⊎ Accepted w n s.table
 chain_first ends = inl (refl, refl)
 chain_first (next e a z c) = inr a
 
 -- the entries that a run takes
-chain-entries : (w n k : ℕ) (s : State) (sheet : List ℕ) (es : List Entry) → Accepted w n s.table
+chain-entries : (w : Wiring) (n k : ℕ) (s : State) (sheet : List ℕ) (es : List Entry) → Accepted w n s.table
     → Chain n s (taken_from w n s es) (go_on w n k s sheet es).state
 unfolding taken_from go_on
 chain-entries w n k s sheet [] a = done
@@ -98,7 +101,7 @@ chain-all n s (c ∷ calls) long =
     let first = chain_run n s c long in
     chain-append first (chain-all n (after_run s c) calls (chain-long first long))
 
-taken-from : (w n k : ℕ) (s : State) (sheet : List ℕ) (es : List Entry) → (go_on w n k s sheet es).taken ≡ k + length (taken_from w n s es)
+taken-from : (w : Wiring) (n k : ℕ) (s : State) (sheet : List ℕ) (es : List Entry) → (go_on w n k s sheet es).taken ≡ k + length (taken_from w n s es)
 unfolding taken_from go_on
 taken-from w n k s sheet [] = omega arith
 taken-from w n k s sheet (e ∷ es) =

@@ -8,7 +8,6 @@ use native.Mathlib.Omega.{arith}
 use lib.Bits.{bit_xor, xor_lt}
 use Rattle.station.specs.Groups.{station_at}
 use Rattle.table.specs.Sizes.{dimension, distances}
-use Rattle.table.specs.Wiring.{wiring_cube}
 use Rattle.table.proofs.WiringLaws.{end-cube}
 use Rattle.table.specs.Table.{next_distance, tests_made, live}
 use Rattle.table.specs.Rules.{round_over}
@@ -20,6 +19,7 @@ use Rattle.detection.specs.Claim.{tests_per_round}
 use Rattle.detection.specs.Boards.{tested_in}
 use Rattle.lists.proofs.BoolLaws.{by_bool}
 use Rattle.lists.proofs.SumLaws.{sum_by, sum-zero}
+use Rattle.table.specs.declared.wiring.Wiring.TheVariants.{Cube}
 use Rattle.detection.proofs.TurnEffect.{Grown, Exact}
 use Rattle.detection.proofs.RoundKnowledge.{InRound, reset-rows, all-finished}
 use Rattle.detection.proofs.Pass.{lift, Round}
@@ -41,10 +41,10 @@ abbrev pub CubeKnows : ℕ → (ℕ → Bool) → List ℕ → List Taken → Li
 CubeKnows n L t₀ cur t = Knows n L t₀ t × Listed n L t₀ cur t
 
 -- where the round is over every live station has finished, so that it has passed all distances
-module _ (n : ℕ) (L : ℕ → Bool) (t₀ t : List ℕ) (here : List Taken) (inv : InRound wiring_cube n L t₀ here t) (know : CubeKnows n L t₀ here t)
+module _ (n : ℕ) (L : ℕ → Bool) (t₀ t : List ℕ) (here : List Taken) (inv : InRound Cube n L t₀ here t) (know : CubeKnows n L t₀ here t)
     (over : round_over n t ≡ true) where
   at-end : (i : ℕ) → i < n → L i ≡ true → next_distance n t i ≡ distances n
-  at-end i h l = (inv.plain.lines.1 i h).pass.finished_next (all-finished wiring_cube n L t inv.plain over i h l) ∙ end-cube n
+  at-end i h l = (inv.plain.lines.1 i h).pass.finished_next (all-finished Cube n L t inv.plain over i h l) ∙ end-cube n
 
   -- where it started exact, each live station has tested just the stations whose groups it leads
   round-list : Exact n L t₀ → (i : ℕ) → i < n → L i ≡ true → tested_in i here ≡ map (station_at i) (led_below n L i (distances n))
@@ -61,7 +61,7 @@ module _ (n : ℕ) (L : ℕ → Bool) (t₀ t : List ℕ) (here : List Taken) (i
   }
     where
       reset-grows : Grown n t (reset_lines n t)
-      reset-grows k y hk = (reset-rows wiring_cube n L t inv.plain).1 k y hk
+      reset-grows k y hk = (reset-rows Cube n L t inv.plain).1 k y hk
 
       inside : (i x : ℕ) → i < n → x < n → bit_xor i x < distances n
       inside i x a b = distance-below n i x low a b
@@ -72,7 +72,7 @@ module _ (n : ℕ) (L : ℕ → Bool) (t₀ t : List ℕ) (here : List Taken) (i
           (λ x hx b. inside i x hi hx)
 
 -- the tests of a round that starts exact
-module _ (n : ℕ) (T t₀ t : List ℕ) (here : List Taken) (low : n ≤ distances n) (inv : InRound wiring_cube n (live n T) t₀ here t)
+module _ (n : ℕ) (T t₀ t : List ℕ) (here : List Taken) (low : n ≤ distances n) (inv : InRound Cube n (live n T) t₀ here t)
     (know : CubeKnows n (live n T) t₀ here t) (over : round_over n t ≡ true) (exact : Exact n (live n T) t₀) where
   abbrev L : ℕ → Bool
   L = live n T
@@ -96,7 +96,7 @@ pub record CubeRound (n : ℕ) (T t₀ : List ℕ) (round : List Taken) (t₁ : 
   pub listed : Exact n (live n T) t₀ → (i : ℕ) → i < n → live n T i ≡ true
       → tested_in i round ≡ map (station_at i) (led_below n (live n T) i (distances n))
 
-pub round-gives : (n : ℕ) (T t₀ t : List ℕ) (here : List Taken) → n ≤ distances n → InRound wiring_cube n (live n T) t₀ here t
+pub round-gives : (n : ℕ) (T t₀ t : List ℕ) (here : List Taken) → n ≤ distances n → InRound Cube n (live n T) t₀ here t
     → CubeKnows n (live n T) t₀ here t → round_over n t ≡ true → CubeRound n T t₀ here (reset_lines n t)
 round-gives n T t₀ t here low inv know over = record {
   step = round-step n (live n T) t₀ t here inv know over low;

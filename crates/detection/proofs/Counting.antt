@@ -29,6 +29,7 @@ use Rattle.detection.specs.Runs.{Taken, table_after, is_turn_of, taken_test}
 use Rattle.detection.specs.Rounds.{any_taken, count_taken, closes, finishes_of, finished_or_not_live, tests_in, turns_in, nth_turn_finishes}
 use Rattle.lists.proofs.BoolLaws.{by_bool, choice, bit-split, every-same}
 use Rattle.lists.proofs.SumLaws.{sum_by, sum-add, sum-single}
+use Rattle.table.specs.declared.wiring.Wiring.{Wiring}
 use Rattle.detection.specs.Claim.{TurnsOk}
 use Rattle.detection.specs.Boards.{is_test_of}
 use Rattle.detection.proofs.TakenLaws.{taken_at, any-one, count-snoc, nth-snoc-turn, nth-snoc-other}
@@ -47,7 +48,8 @@ counts_start n t =
     record { turns = λ i h. omega arith; ended = λ i h. omega arith; last_ends = λ i h e. absurd (omega arith); tests = omega arith }
 
 -- a taken turn keeps it
-module _ (w n : ℕ) (s : State) (e : Entry) (o : ℕ) (t₀ t' : List ℕ) (cur : List Taken) (no_crash : is_crash e ≡ false) (below : e.station < n)
+module _ (w : Wiring) (n : ℕ) (s : State) (e : Entry) (o : ℕ) (t₀ t' : List ℕ) (cur : List Taken) (no_crash : is_crash e ≡ false)
+    (below : e.station < n)
     (unfinished : finished n s.table e.station ≡ 0) (heads : Heads w n s.table t' e.station o (makes_test w n s.table e.station))
     (c : Counts n t₀ cur s.table) where
   abbrev t : List ℕ
@@ -115,7 +117,7 @@ module _ (w n : ℕ) (s : State) (e : Entry) (o : ℕ) (t₀ t' : List ℕ) (cur
   }
 
 -- and so does a crash, which is no turn and leaves bytes 2 and 3
-pub crash-counts : (w n : ℕ) (s : State) (e : Entry) (t₀ t' : List ℕ) (cur : List Taken) → is_crash e ≡ true
+pub crash-counts : (w : Wiring) (n : ℕ) (s : State) (e : Entry) (t₀ t' : List ℕ) (cur : List Taken) → is_crash e ≡ true
     → ((k c : ℕ) → TurnCounts c → cell n t' k c ≡ cell n s.table k c) → Counts n t₀ cur s.table → Counts n t₀ (cur ++ (taken_at w n s e ∷ [])) t'
 crash-counts w n s e t₀ t' cur crashed same c = record {
   turns = λ k h. omega (arith, tests_same k, finish-same k, c.turns k h, no-turn k);
@@ -155,15 +157,16 @@ turns-split i (x ∷ xs) =
     bits false false tests = refl
 
 -- fewer tests are made in a round than stations stand at the distances passed, for the station itself stands at 0
-abbrev pub Roomy : ℕ → ℕ → List ℕ → Type 0
+abbrev pub Roomy : Wiring → ℕ → List ℕ → Type 0
 Roomy w n t = (i : ℕ) → i < n → suc (tests_made n t i) ≤ standing w n i (next_distance n t i)
 
 -- where a round starts
-pub roomy-start : (w n : ℕ) (t : List ℕ) → ((i : ℕ) → i < n → Reset n t i) → Roomy w n t
+pub roomy-start : (w : Wiring) (n : ℕ) (t : List ℕ) → ((i : ℕ) → i < n → Reset n t i) → Roomy w n t
 roomy-start w n t fresh i h = rw ((fresh i h).untested, (fresh i h).next) (omega (arith, standing-own w n i h))
 
 -- a turn keeps it
-pub turn-roomy : (w n : ℕ) (t t' : List ℕ) (i o : ℕ) → Lines w n t → i < n → Heads w n t t' i o (makes_test w n t i) → Roomy w n t → Roomy w n t'
+pub turn-roomy : (w : Wiring) (n : ℕ) (t t' : List ℕ) (i o : ℕ) → Lines w n t → i < n → Heads w n t t' i o (makes_test w n t i) → Roomy w n t
+    → Roomy w n t'
 turn-roomy w n t t' i o lines below heads roomy k h = by_cases (ℕ_discrete k i) (λ e. rw e own) other
   where
     own : suc (tests_made n t' i) ≤ standing w n i (next_distance n t' i)
@@ -184,7 +187,7 @@ turn-roomy w n t t' i o lines below heads roomy k h = by_cases (ℕ_discrete k i
         rw (heads.others k tests_column e (omega arith), heads.others k next_column e (omega arith)) (roomy k h)
 
 -- in a round, from its start on
-module _ (w n : ℕ) (t₀ t : List ℕ) (cur : List Taken) (fresh : (i : ℕ) → i < n → Reset n t₀ i) (lines : Lines w n t)
+module _ (w : Wiring) (n : ℕ) (t₀ t : List ℕ) (cur : List Taken) (fresh : (i : ℕ) → i < n → Reset n t₀ i) (lines : Lines w n t)
     (c : Counts n t₀ cur t) where
   pub turns-ok : is_size n ≡ true → Roomy w n t → (i : ℕ) → i < n → TurnsOk n i cur
   turns-ok size roomy i h =

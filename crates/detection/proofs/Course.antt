@@ -25,6 +25,7 @@ use Rattle.detection.specs.Rounds.{all_taken, count_taken, Rounds, round_before,
 use Rattle.detection.specs.Claim.{TurnsOk, all_rounds}
 use Rattle.detection.specs.Boards.{first_table}
 use Rattle.lists.proofs.BoolLaws.{by_bool}
+use Rattle.table.specs.declared.wiring.Wiring.{Wiring}
 use Rattle.detection.proofs.TakenLaws.{taken_at, count-snoc}
 use Rattle.detection.proofs.Chain.{WiredChain, ends, next}
 use Rattle.detection.proofs.Counting.{turns-ok, closes-is}
@@ -33,7 +34,8 @@ use Rattle.detection.proofs.TurnEffect.{Plain, Grown, Company, turn-effect}
 use Rattle.detection.proofs.RoundKnowledge.{InRound, restart, TurnTaken, turn-in-round, Gave, RoundKnowledge}
 
 -- the rounds r from the one that starts with t₀ on, to the table `end`; L is the live set, and Gives says what each closed round gave
-pub record Course (w n : ℕ) (L : ℕ → Bool) (Gives : List ℕ → List Taken → List ℕ → Type 0) (t₀ : List ℕ) (r : Rounds) (end : List ℕ) : Type 0 where
+pub record Course (w : Wiring) (n : ℕ) (L : ℕ → Bool) (Gives : List ℕ → List Taken → List ℕ → Type 0) (t₀ : List ℕ) (r : Rounds)
+    (end : List ℕ) : Type 0 where
   -- the table at the start of each round
   pub start : ℕ → List ℕ
   pub begins : start 0 ≡ t₀
@@ -51,7 +53,7 @@ pub record Tallied (cur : List Taken) (s : State) (r : Rounds) (s' : State) : Ty
   pub tests : s'.tests + tests_in cur ≡ s.tests + tests_of_all (all_rounds r)
 
 -- the entries xs from s to s', behind the entries `cur` of the round that started with t₀
-abbrev CutFrom : (w n : ℕ) (L : ℕ → Bool) → RoundKnowledge w n L → List ℕ → List Taken → State → List Taken → State → Type 0
+abbrev CutFrom : (w : Wiring) (n : ℕ) (L : ℕ → Bool) → RoundKnowledge w n L → List ℕ → List Taken → State → List Taken → State → Type 0
 CutFrom w n L K t₀ cur s xs s' = Course w n L K.Gives t₀ (cut cur xs) s'.table × Tallied cur s (cut cur xs) s'
 
 -- a closed round before the others: the table at its start, and those at the starts of the others
@@ -60,12 +62,13 @@ start_with t f zero = t
 start_with t f (suc q) = f q
 
 -- what is shown of the round `here`, which starts with t₀ and closes with the table t₁
-record ClosedRound (w n : ℕ) (L : ℕ → Bool) (Gives : List ℕ → List Taken → List ℕ → Type 0) (t₀ t₁ : List ℕ) (here : List Taken) : Type 0 where
+record ClosedRound (w : Wiring) (n : ℕ) (L : ℕ → Bool) (Gives : List ℕ → List Taken → List ℕ → Type 0) (t₀ t₁ : List ℕ)
+    (here : List Taken) : Type 0 where
   pub gave : Gives t₀ here t₁
   pub opened : (first_table here ≡ t₀) × Plain w n L t₀
   pub turns : (i : ℕ) → i < n → TurnsOk n i here
 
-course-before : (w n : ℕ) (L : ℕ → Bool) (Gives : List ℕ → List Taken → List ℕ → Type 0) (t₀ t₁ : List ℕ) (here : List Taken)
+course-before : (w : Wiring) (n : ℕ) (L : ℕ → Bool) (Gives : List ℕ → List Taken → List ℕ → Type 0) (t₀ t₁ : List ℕ) (here : List Taken)
     → ClosedRound w n L Gives t₀ t₁ here → (r : Rounds) (end : List ℕ) → Course w n L Gives t₁ r end
     → Course w n L Gives t₀ (round_before here r) end
 course-before w n L Gives t₀ t₁ here first r end c =
@@ -91,7 +94,7 @@ course-before w n L Gives t₀ t₁ here first r end c =
     }
 
 -- no entry more
-cut-done : (w n : ℕ) (L : ℕ → Bool) (K : RoundKnowledge w n L) (t₀ : List ℕ) (cur : List Taken) (s : State) → is_size n ≡ true
+cut-done : (w : Wiring) (n : ℕ) (L : ℕ → Bool) (K : RoundKnowledge w n L) (t₀ : List ℕ) (cur : List Taken) (s : State) → is_size n ≡ true
     → InRound w n L t₀ cur s.table → CutFrom w n L K t₀ cur s [] s
 unfolding cut tests_of_all
 cut-done w n L K t₀ cur s size inv = (
@@ -110,7 +113,8 @@ cut-done w n L K t₀ cur s size inv = (
 )
 
 -- a taken entry that is no crash and no late reply, in a table in which no live station suspects a live one: a turn of a live station
-module _ (w n : ℕ) (L : ℕ → Bool) (company : Company n L) (s : State) (e : Entry) (ok : Accepted w n s.table) (takes : entry_refusal n s e ≡ 0)
+module _ (w : Wiring) (n : ℕ) (L : ℕ → Bool) (company : Company n L) (s : State) (e : Entry) (ok : Accepted w n s.table)
+    (takes : entry_refusal n s e ≡ 0)
     (p : Plain w n L s.table) (no_crash : is_crash e ≡ false) (in_time : is_late (taken_at w n s e) ≡ false) where
   facts : Takes n s e
   facts = entry-facts n s e takes
@@ -140,7 +144,8 @@ module _ (w n : ℕ) (L : ℕ → Bool) (company : Company n L) (s : State) (e :
       })
 
 -- such an entry within a round
-module _ (w n : ℕ) (L : ℕ → Bool) (K : RoundKnowledge w n L) (company : Company n L) (t₀ : List ℕ) (cur : List Taken) (s : State) (e : Entry)
+module _ (w : Wiring) (n : ℕ) (L : ℕ → Bool) (K : RoundKnowledge w n L) (company : Company n L) (t₀ : List ℕ) (cur : List Taken) (s : State)
+    (e : Entry)
     (ok : Accepted w n s.table) (takes : entry_refusal n s e ≡ 0) (inv : InRound w n L t₀ cur s.table) (know : K.Knows t₀ cur s.table)
     (no_crash : is_crash e ≡ false) (in_time : is_late (taken_at w n s e) ≡ false) where
   abbrev t : List ℕ
@@ -200,7 +205,7 @@ module _ (w n : ℕ) (L : ℕ → Bool) (K : RoundKnowledge w n L) (company : Co
           rw (closing-is ∙ over) (r.0, omega (arith, rw over at r.1.rounds, r.1.tests, tests-after, count-snoc taken_test cur x))
 
 -- a chain, cut into rounds
-pub course : (w n : ℕ) (L : ℕ → Bool) (K : RoundKnowledge w n L) → is_size n ≡ true → Company n L
+pub course : (w : Wiring) (n : ℕ) (L : ℕ → Bool) (K : RoundKnowledge w n L) → is_size n ≡ true → Company n L
     → {s s' : State} {xs : List Taken} → WiredChain w n s xs s'
     → all_taken (λ x. not (crashes x)) xs ≡ true → all_taken (λ x. not (is_late x)) xs ≡ true
     → (t₀ : List ℕ) (cur : List Taken) → InRound w n L t₀ cur s.table → K.Knows t₀ cur s.table → CutFrom w n L K t₀ cur s xs s'

@@ -7,9 +7,9 @@ use Prim.Native.Nat.{ℕ, suc, ◌^◌, ◌≤◌, ◌<◌}
 use native.Mathlib.Omega.{arith}
 use borrow.Author.Tests.{lt-ltb}
 use Rattle.table.specs.Sizes.{is_size, dimension}
-use Rattle.table.specs.Wiring.{wiring_cube}
 use Rattle.table.specs.Table.{live}
 use Rattle.table.proofs.SizeLaws.{size-distances, size-log}
+use Rattle.table.specs.declared.wiring.Wiring.TheVariants.{Cube}
 use Rattle.detection.specs.Runs.{Taken}
 use Rattle.detection.specs.Rounds.{tests_in}
 use Rattle.detection.specs.Claim.{tests_per_round, worst_latency}
@@ -60,7 +60,7 @@ counted-at n T size start round closed gave q far h =
     (gave q h).counted (exact-at n T size start round closed gave q far (omega arith))
 
 -- what the claim takes of the cube; T has the live set
-abbrev pub cube : (n : ℕ) (T : List ℕ) → is_size n ≡ true → RoundKnowledge wiring_cube n (live n T)
+abbrev pub cube : (n : ℕ) (T : List ℕ) → is_size n ≡ true → RoundKnowledge Cube n (live n T)
 cube n T size = record {
   Knows = CubeKnows n (live n T);
   starts = λ t inv. (knows_start n (live n T) t inv.fresh, listed_start n (live n T) t inv.fresh);

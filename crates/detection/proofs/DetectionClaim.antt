@@ -1,15 +1,13 @@
 -- Detection, proved: the chain of taken entries is cut into rounds, and what closed rounds give bounds the rounds after which all is known. The
 -- wiring is a parameter (`RoundKnowledge`); with the cube's and the ring's the claim holds within the worst case and the greater bounds.
 -- Assumes nothing.
-use mathlib.Core.Path.{◌≡◌, refl, sym, ap, subst, ◌∙◌}
+use mathlib.Core.Path.{◌≡◌, refl, sym, ap, ◌∙◌}
 use mathlib.Core.Logic.{◌⊎◌, inl, inr, ◌≢◌}
 use mathlib.Core.Bool.{Bool, true, false, not, ◌&&◌}
 use mathlib.Core.List.{List, [], ◌∷◌, ◌++◌}
 use Prim.Native.Nat.{ℕ, ◌≤◌, ◌<◌}
 use native.Mathlib.Nat.{le_trans}
 use native.Mathlib.Omega.{arith}
-use Rattle.std.specs.Prelude.{Ok}
-use Rattle.std.proofs.lemmas.Bool.Decides.{nat_tests}
 use borrow.Author.Tests.{ltb-true, ltb-false, eqb-true, eqb-false, ne_eqb, not-true}
 use lib.ListN.{length}
 use lib.Dec.{ltb, eqb}
@@ -32,7 +30,9 @@ use Rattle.detection.specs.Claim.{triangle_rounds, DetectionInTriangle, worst_la
 use Rattle.detection.specs.InList.{DetectionInList}
 use Rattle.lists.proofs.BoolLaws.{by_bool}
 use Rattle.lists.proofs.SumLaws.{sum-single, sum-zero}
-use Rattle.table.specs.Wiring.{wiring_cube, wiring_ring, is_ring, wiring_check}
+use Rattle.table.specs.Wiring.{is_ring}
+use Rattle.table.specs.declared.wiring.Wiring.{Wiring}
+use Rattle.table.specs.declared.wiring.Wiring.TheVariants.{Cube, Ring}
 use Rattle.detection.proofs.Latency.{latency-le-triangle, latency-le-square}
 use Rattle.detection.proofs.Chain.{on-wiring, chain-all, chain_first}
 use Rattle.detection.proofs.TurnEffect.{Plain, Company}
@@ -43,7 +43,8 @@ use Rattle.detection.proofs.Cube.{cube}
 use Rattle.detection.proofs.RingKnowledge.{ring}
 
 -- no live station suspects a live one: the byte is 0, where rows hold 0 and 1 only
-pub trusts : (w n : ℕ) (t : List ℕ) → Accepted w n t → none_suspected n t ≡ true → (i j : ℕ) → i < n → j < n → live n t i ≡ true → live n t j ≡ true
+pub trusts : (w : Wiring) (n : ℕ) (t : List ℕ) → Accepted w n t → none_suspected n t ≡ true → (i j : ℕ) → i < n → j < n → live n t i ≡ true
+    → live n t j ≡ true
     → suspects n t i j ≡ 0
 unfolding none_suspected
 trusts w n t ok none i j h g a b =
@@ -73,12 +74,13 @@ company-of n t two i h l =
     p = least other n 0
 
 -- an accepted table in which no live station suspects a live one
-pub plain-at : (w n : ℕ) (t : List ℕ) → Accepted w n t → ((i j : ℕ) → i < n → j < n → live n t i ≡ true → live n t j ≡ true → suspects n t i j ≡ 0)
+pub plain-at : (w : Wiring) (n : ℕ) (t : List ℕ) → Accepted w n t
+    → ((i j : ℕ) → i < n → j < n → live n t i ≡ true → live n t j ≡ true → suspects n t i j ≡ 0)
     → Plain w n (live n t) t
 plain-at w n t ok clean = record { lines = (ok.long, accepted-line w n t ok); lives = λ i h. refl; accurate = clean }
 
 -- such a table at the start of a round
-pub first_round : (w n : ℕ) (t : List ℕ) → Accepted w n t → at_start n t ≡ true
+pub first_round : (w : Wiring) (n : ℕ) (t : List ℕ) → Accepted w n t → at_start n t ≡ true
     → ((i j : ℕ) → i < n → j < n → live n t i ≡ true → live n t j ≡ true → suspects n t i j ≡ 0) → InRound w n (live n t) t [] t
 unfolding at_start
 first_round w n t ok start clean = round-start w n (live n t) t (plain-at w n t ok clean) fresh
@@ -90,7 +92,7 @@ first_round w n t ok start clean = round-start w n (live n t) t (plain-at w n t 
         record { next = eqb-true _ 1 head.0; unfinished = eqb-true _ 0 head.1; untested = eqb-true _ 0 all.1 }
 
 -- the rounds of a list of runs, from a table that refusals let through, on any wiring
-pub rounds-from : (w n : ℕ) (s : State) (calls : List Call) → DetectionPremises w n s calls → Accepted w n s.table
+pub rounds-from : (w : Wiring) (n : ℕ) (s : State) (calls : List Call) → DetectionPremises w n s calls → Accepted w n s.table
     → (K : RoundKnowledge w n (live n s.table))
     → Course w n (live n s.table) K.Gives s.table (rounds_of s calls) (after_runs s calls).table
     × Tallied [] s (rounds_of s calls) (after_runs s calls)
@@ -101,7 +103,8 @@ rounds-from w n s calls given ok K =
     course w n (live n s.table) K given.size company chain given.no_crash given.no_late s.table [] first (K.starts s.table first)
 
 -- the claim, on a wiring on which `enough` rounds are enough, and after so many the closed ones have the count of tests
-module _ (w n : ℕ) (s : State) (calls : List Call) (given : DetectionPremises w n s calls) (K : RoundKnowledge w n (live n s.table)) (enough : ℕ)
+module _ (w : Wiring) (n : ℕ) (s : State) (calls : List Call) (given : DetectionPremises w n s calls) (K : RoundKnowledge w n (live n s.table))
+    (enough : ℕ)
     (known : K.enough ≤ enough) (from : K.counted_from ≤ counted_from w enough) (count : K.count ≡ count_of w n s.table) where
   abbrev L : ℕ → Bool
   L = live n s.table
@@ -149,10 +152,10 @@ module _ (w n : ℕ) (s : State) (calls : List Call) (given : DetectionPremises 
       go (inr ok) = detection-accepted ok
 
 -- the rounds on the cube
-pub history : (n : ℕ) (s : State) (calls : List Call) → DetectionPremises wiring_cube n s calls → Accepted wiring_cube n s.table
-    → Course wiring_cube n (live n s.table) (CubeRound n s.table) s.table (rounds_of s calls) (after_runs s calls).table
+pub history : (n : ℕ) (s : State) (calls : List Call) → DetectionPremises Cube n s calls → Accepted Cube n s.table
+    → Course Cube n (live n s.table) (CubeRound n s.table) s.table (rounds_of s calls) (after_runs s calls).table
     × Tallied [] s (rounds_of s calls) (after_runs s calls)
-history n s calls given ok = rounds-from wiring_cube n s calls given ok (cube n s.table given.size)
+history n s calls given ok = rounds-from Cube n s calls given ok (cube n s.table given.size)
 
 -- some station is live
 pub someone : (n : ℕ) (t : List ℕ) → 1 ≤ live_count n t → (z : ℕ) × (z < n) × (live n t z ≡ true)
@@ -167,41 +170,31 @@ someone n t one =
     p = least (live n t) n 0
 
 -- the claim on the cube
-on-cube : (n : ℕ) → DetectionAt wiring_cube n (worst_latency (dimension n))
+on-cube : (n : ℕ) → DetectionAt Cube n (worst_latency (dimension n))
 on-cube n s calls given =
-    detection-by wiring_cube n s calls given (cube n s.table given.size) (worst_latency (dimension n)) (omega arith) (omega arith) refl
+    detection-by Cube n s calls given (cube n s.table given.size) (worst_latency (dimension n)) (omega arith) (omega arith) refl
 
 -- what the claim takes of the ring
-abbrev pub ring-of : (n : ℕ) (s : State) (calls : List Call) → DetectionPremises wiring_ring n s calls → RoundKnowledge wiring_ring n (live n s.table)
+abbrev pub ring-of : (n : ℕ) (s : State) (calls : List Call) → DetectionPremises Ring n s calls → RoundKnowledge Ring n (live n s.table)
 ring-of n s calls given =
     let z = someone n s.table (omega (arith, given.two_live)) in
-    ring wiring_ring n (live n s.table) refl (omega (arith, size-bounds n given.size)) (company-of n s.table given.two_live) z.0 z.1 z.2
+    ring Ring n (live n s.table) refl (omega (arith, size-bounds n given.size)) (company-of n s.table given.two_live) z.0 z.1 z.2
 
 -- the claim on the ring
-on-ring : (n : ℕ) → DetectionAt wiring_ring n (ring_latency n)
-on-ring n s calls given = detection-by wiring_ring n s calls given (ring-of n s calls given) (ring_latency n) (omega arith) (omega arith) refl
-
--- a wiring that is not the cube is the ring
-no-third : (w : ℕ) → wiring_check w ≡ Ok tt → w ≢ wiring_cube → w ≡ wiring_ring
-no-third w h ne = grind (arith, nat_tests)
-
--- what holds of both wirings holds of each that refusal 24 lets through
-pub on-each : (P : ℕ → Type 0) (w : ℕ) → wiring_check w ≡ Ok tt → P wiring_cube → P wiring_ring → P w
-on-each P w h cube ring =
-    by_bool (eqb w wiring_cube) (λ e. subst P (sym (eqb-true w wiring_cube e)) cube)
-    (λ e. subst P (sym (no-third w h (eqb-false w wiring_cube e))) ring)
+on-ring : (n : ℕ) → DetectionAt Ring n (ring_latency n)
+on-ring n s calls given = detection-by Ring n s calls given (ring-of n s calls given) (ring_latency n) (omega arith) (omega arith) refl
 
 -- the claim within the worst case, an end in itself
 pub detection-in-worst-case : Detection worst_rounds
-detection-in-worst-case w n s calls given =
-    on-each (λ (w : ℕ). DetectionAt w n (worst_rounds w n)) w given.wiring (on-cube n) (on-ring n) s calls given
+detection-in-worst-case Cube n = on-cube n
+detection-in-worst-case Ring n = on-ring n
 
 -- the rounds from which on the tests are counted grow with those that are enough
-counted-later : (w a b : ℕ) → a ≤ b → counted_from w a ≤ counted_from w b
+counted-later : (w : Wiring) (a b : ℕ) → a ≤ b → counted_from w a ≤ counted_from w b
 counted-later w a b h = by_bool (is_ring w) (λ e. rw e (omega arith)) (λ e. rw e h)
 
 -- and so within any number of rounds that is not less
-pub within : (rounds : ℕ → ℕ → ℕ) → ((w n : ℕ) → 2 ≤ n → worst_rounds w n ≤ rounds w n) → Detection rounds
+pub within : (rounds : Wiring → ℕ → ℕ) → ((w : Wiring) (n : ℕ) → 2 ≤ n → worst_rounds w n ≤ rounds w n) → Detection rounds
 within rounds enough w n s calls given =
     let c = detection-in-worst-case w n s calls given in
     let fewer : worst_rounds w n ≤ rounds w n = enough w n (omega (arith, size-bounds n given.size)) in
@@ -231,7 +224,7 @@ after-one-more s [] c = refl
 after-one-more s (b ∷ calls) c = after-one-more (after_run s b) calls c
 
 -- a claim about lists, of the last run of a list
-last-run : (rounds : ℕ → ℕ → ℕ) → Detection rounds → (c : Call) (before : State) → DetectionAfter rounds c before (after_run before c)
+last-run : (rounds : Wiring → ℕ → ℕ) → Detection rounds → (c : Call) (before : State) → DetectionAfter rounds c before (after_run before c)
 last-run rounds claim c before w n s calls e given = rw (after-one-more s calls c, e) at (claim w n s (calls ++ (c ∷ [])) given)
 
 -- a run promises the claim, wherever it stands in a list

@@ -8,8 +8,9 @@ use native.Mathlib.Omega.{arith}
 use borrow.Author.Tests.{eqb-true, eqb-false}
 use lib.Dec.{eqb}
 use lib.ListN.{length, length-append}
-use Rattle.table.specs.Rules.{numbered_table_refusal}
+use Rattle.table.specs.Rules.{table_refusal}
 use Rattle.lists.proofs.BoolLaws.{by_bool}
+use Rattle.table.specs.declared.wiring.Wiring.{Wiring}
 use Rattle.plant.specs.Turn.{kind_turn}
 use Rattle.plant.specs.Entry.{State, entry_of, entry_check, entry_refusal}
 use Rattle.plant.proofs.RunLaws.{accepted-number}
@@ -25,7 +26,7 @@ use Rattle.detection.specs.Driven.{runs_of, DriveIsTurns}
 use Rattle.granter.proofs.Stops.{drive-stops}
 
 -- as long as a drive does not stop
-pub driving-at : (w n : ℕ) (s : State) (last : ℕ) → Grantable w n s.table last → (k : ℕ)
+pub driving-at : (w : Wiring) (n : ℕ) (s : State) (last : ℕ) → Grantable w n s.table last → (k : ℕ)
     → ((j : ℕ) → j < suc k → stops w n (stand_at s last) j ≡ false) → Driving w n (stand_at s last) k
 driving-at w n s last g zero going = driving-start w n s last g
 driving-at w n s last g (suc k) going =
@@ -34,7 +35,7 @@ driving-at w n s last g (suc k) going =
     (not_stopped w n (stand_at s last) (suc k) (going (suc k) (omega arith))).0
 
 -- the runs of k grants leave what the grants leave, and each takes its entry
-runs-left : (w n : ℕ) (s : State) (last : ℕ) → Grantable w n s.table last → (k : ℕ)
+runs-left : (w : Wiring) (n : ℕ) (s : State) (last : ℕ) → Grantable w n s.table last → (k : ℕ)
     → ((j : ℕ) → j < k → stops w n (stand_at s last) j ≡ false)
     → (after_runs s (runs_of w n (stand_at s last) k) ≡ (after_grants w n (stand_at s last) k).state)
     × (length (taken_all s (runs_of w n (stand_at s last) k)) ≡ k)
@@ -57,7 +58,7 @@ runs-left w n s last g (suc k) going = step (runs-left w n s last g k (λ j l. g
     z : entry_refusal n q (entry_of kind_turn i) ≡ 0
     z = next-taken w n p k d (not_stopped w n p k (going k (omega arith))).1
 
-    ok : numbered_table_refusal w n q.table ≡ 0
+    ok : table_refusal w n q.table ≡ 0
     ok = accepted-number w n q.table d.ok
 
     step : (after_runs s (runs_of w n p k) ≡ q) × (length (taken_all s (runs_of w n p k)) ≡ k)
@@ -70,7 +71,7 @@ runs-left w n s last g (suc k) going = step (runs-left w n s last g k (λ j l. g
     )
 
 -- the last numbers of a drive are let through
-last_fits : (w n : ℕ) (s : State) (last : ℕ) → Grantable w n s.table last → (k : ℕ)
+last_fits : (w : Wiring) (n : ℕ) (s : State) (last : ℕ) → Grantable w n s.table last → (k : ℕ)
     → ((j : ℕ) → j < k → stops w n (stand_at s last) j ≡ false) → last_refusal n (after_grants w n (stand_at s last) k).last ≡ 0
 unfolding after_grants grant_turn
 last_fits w n s last g zero going = g.last_fits
@@ -78,7 +79,7 @@ last_fits w n s last g (suc k) going =
     station-fits n (granted_at n (after_grants w n (stand_at s last) k)) (chosen w n (stand_at s last) k (driving-at w n s last g k going)).0
 
 -- no grant of a drive is refused
-grants-taken : (w n : ℕ) (s : State) (last : ℕ) → Grantable w n s.table last → (k : ℕ)
+grants-taken : (w : Wiring) (n : ℕ) (s : State) (last : ℕ) → Grantable w n s.table last → (k : ℕ)
     → ((j : ℕ) → j < suc k → stops w n (stand_at s last) j ≡ false)
     → grant_refusal w n (after_grants w n (stand_at s last) k).state.table (after_grants w n (stand_at s last) k).last ≡ 0
 grants-taken w n s last g k going =
@@ -86,7 +87,7 @@ grants-taken w n s last g k going =
     grant-zero w n _ _ (accepted-number w n _ d.ok) (last_fits w n s last g k (λ j l. going j (omega arith))) (still w n (stand_at s last) k d).1
 
 -- where a drive stops and has not ended, a tally is full
-full-number : (w n : ℕ) (p : Stand) (k i : ℕ) → stops w n p k ≡ true → ◌≡◌ {A = ℕ} (cond (ended_after w n p k) 0 7) 7
+full-number : (w : Wiring) (n : ℕ) (p : Stand) (k i : ℕ) → stops w n p k ≡ true → ◌≡◌ {A = ℕ} (cond (ended_after w n p k) 0 7) 7
     → entry_refusal n (after_grants w n p k).state (entry_of kind_turn i) ≡ 7
 unfolding stops entry_check
 full-number w n p k i stop seven =

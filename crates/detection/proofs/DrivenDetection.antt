@@ -21,6 +21,7 @@ use Rattle.plant.specs.Entry.{Entry, State, entry_of, acted, after}
 use Rattle.detection.specs.Runs.{Taken, turn_run, after_runs, taken_all, crashes, is_late, is_on}
 use Rattle.detection.specs.Rounds.{all_taken}
 use Rattle.table.specs.Properties.{live_count}
+use Rattle.table.specs.declared.wiring.Wiring.{Wiring}
 use Rattle.detection.specs.Claim.{rounds_of, DetectionPremises, DetectionConclusion, Detection, square_rounds, triangle_rounds, worst_rounds}
 use Rattle.detection.proofs.OneTurn.{after-append, runs_append, one_passes}
 use Rattle.detection.proofs.TakenLaws.{taken_at}
@@ -35,6 +36,7 @@ use Rattle.detection.specs.Driven.{DrivenDetectionConclusion, DrivenDetection, D
 use Rattle.detection.specs.InList.{DrivenDetectionInList}
 use Rattle.granter.proofs.Stops.{drive-stops}
 use Rattle.detection.proofs.DriveRuns.{driving-at, drive-is-turns}
+use Rattle.table.proofs.WiringLaws.{same-itself}
 
 -- the runs of a run or a drive leave what it leaves
 one-mixed-left : (s : State) (x : RunOrDrive) → after_runs s (runs_of_one s x) ≡ after_one s x
@@ -50,12 +52,12 @@ mixed-left s (x ∷ xs) =
     rw (after-append s (runs_of_one s x) (runs_of_mixed (after_one s x) xs), one-mixed-left s x) (mixed-left (after_one s x) xs)
 
 -- a claim about lists of runs, of lists that mix runs and drives
-pub mixed-detection : (rounds : ℕ → ℕ → ℕ) → Detection rounds → MixedDetection rounds
+pub mixed-detection : (rounds : Wiring → ℕ → ℕ) → Detection rounds → MixedDetection rounds
 mixed-detection rounds claim w n s xs given =
     subst (DetectionConclusion (rounds w n) w n s (runs_of_mixed s xs)) (mixed-left s xs) (claim w n s (runs_of_mixed s xs) given)
 
 -- what turns pass, all entries pass that drives take
-module _ (w : ℕ) (q : Taken → Bool) (turns : (n : ℕ) (s : State) (i : ℕ) → q (taken_at w n s (entry_of kind_turn i)) ≡ true) where
+module _ (w : Wiring) (q : Taken → Bool) (turns : (n : ℕ) (s : State) (i : ℕ) → q (taken_at w n s (entry_of kind_turn i)) ≡ true) where
   grants-pass : (n : ℕ) (s : State) (p : Stand) (k : ℕ) → all_taken q (taken_all s (runs_of w n p k)) ≡ true
   unfolding runs_of taken_all all_taken
   grants-pass n s p zero = refl
@@ -72,14 +74,14 @@ module _ (w : ℕ) (q : Taken → Bool) (turns : (n : ℕ) (s : State) (i : ℕ)
       (rw (drive-is-turns w n s last).left (drives-pass n (drive w n s last).state lasts))
 
 -- drives and one more
-after-one-more : (w n : ℕ) (s : State) (lasts : List ℕ) (last : ℕ)
+after-one-more : (w : Wiring) (n : ℕ) (s : State) (lasts : List ℕ) (last : ℕ)
     → after_drives w n s (lasts ++ (last ∷ [])) ≡ (drive w n (after_drives w n s lasts) last).state
 unfolding after_mixed
 after-one-more w n s [] last = refl
 after-one-more w n s (first ∷ lasts) last = after-one-more w n (drive w n s first).state lasts last
 
 -- a drive that ends with somebody live closes one round
-closes_at : (w n : ℕ) (s : State) (last : ℕ) → Grantable w n s.table last → (k : ℕ)
+closes_at : (w : Wiring) (n : ℕ) (s : State) (last : ℕ) → Grantable w n s.table last → (k : ℕ)
     → ((j : ℕ) → j < k → stops w n (stand_at s last) j ≡ false) → ended_after w n (stand_at s last) k ≡ true
     → some_live n (after_grants w n (stand_at s last) k).state.table ≡ true → (after_grants w n (stand_at s last) k).state.rounds ≡ s.rounds + 1
 unfolding after_grants grant_turn after ended
@@ -109,7 +111,7 @@ closes_at w n s last g (suc k) going o lives =
     open-then : (after w n q e).rounds ≡ s.rounds → ended n s.rounds (after w n q e) ≡ false
     open-then same = rw (eq-eqb _ _ same, lives)
 
-drive-closes : (w n : ℕ) (s : State) (last : ℕ) → (drive w n s last).number ≡ 0 → some_live n (drive w n s last).state.table ≡ true
+drive-closes : (w : Wiring) (n : ℕ) (s : State) (last : ℕ) → (drive w n s last).number ≡ 0 → some_live n (drive w n s last).state.table ≡ true
     → (drive w n s last).state.rounds ≡ s.rounds + 1
 unfolding drive outcome_after
 drive-closes w n s last z lives =
@@ -127,7 +129,7 @@ drive-closes w n s last z lives =
     ended_of false e z = absurd (omega arith)
 
 -- any other drive closes none
-drive-stays : (w n : ℕ) (s : State) (last : ℕ) → ((drive w n s last).number ≡ 0 → ⊥) → (drive w n s last).state.rounds ≡ s.rounds
+drive-stays : (w : Wiring) (n : ℕ) (s : State) (last : ℕ) → ((drive w n s last).number ≡ 0 → ⊥) → (drive w n s last).state.rounds ≡ s.rounds
 unfolding drive outcome_after
 drive-stays w n s last z =
     by_bool (eqb (grant_refusal w n s.table last) 0)
@@ -143,23 +145,22 @@ drive-stays w n s last z =
     made = grants_made w n p
 
 -- the rounds that a drive adds, where somebody is live after it
-drive-adds : (w n : ℕ) (s : State) (last : ℕ) → some_live n (drive w n s last).state.table ≡ true
+drive-adds : (w : Wiring) (n : ℕ) (s : State) (last : ℕ) → some_live n (drive w n s last).state.table ≡ true
     → (drive w n s last).state.rounds ≡ s.rounds + bit (eqb (drive w n s last).number 0)
 drive-adds w n s last lives =
     by_bool (eqb (drive w n s last).number 0) (λ e. rw e (drive-closes w n s last (eqb-true _ 0 e) lives))
     (λ e. rw e (omega (arith, drive-stays w n s last (eqb-false _ 0 e))))
 
 -- within so many rounds
-module _ (rounds : ℕ → ℕ → ℕ) (claim : Detection rounds) (w n : ℕ) (s : State) (given : DetectionPremises w n s []) where
+module _ (rounds : Wiring → ℕ → ℕ) (claim : Detection rounds) (w : Wiring) (n : ℕ) (s : State) (given : DetectionPremises w n s []) where
   premises : (lasts : List ℕ) → DetectionPremises w n s (runs_of_drives w n s lasts)
   premises lasts = record {
-    wiring = given.wiring;
     size = given.size;
     long = given.long;
     start = given.start;
     two_live = given.two_live;
     accurate = given.accurate;
-    one_wiring = drives-pass w (is_on w) (λ n s i. eq-eqb w w refl) n s lasts;
+    one_wiring = drives-pass w (is_on w) (λ n s i. same-itself w) n s lasts;
     no_crash = drives-pass w (λ x. not (crashes x)) (λ n s i. refl) n s lasts;
     no_late = drives-pass w (λ x. not (is_late x)) (λ n s i. refl) n s lasts;
   }
@@ -196,17 +197,17 @@ module _ (rounds : ℕ → ℕ → ℕ) (claim : Detection rounds) (w n : ℕ) (
       record { detection = c; rounds = count; exact_rows = λ far. c.exact_rows (rw count far) }
 
 -- a claim about lists of runs, of driven plants. That still fewer rounds do not suffice is shown of runs only (crate witness)
-pub driven-detection : (rounds : ℕ → ℕ → ℕ) → Detection rounds → DrivenDetection rounds
+pub driven-detection : (rounds : Wiring → ℕ → ℕ) → Detection rounds → DrivenDetection rounds
 driven-detection rounds claim w n s lasts given = driven rounds claim w n s given lasts
 
 -- and so of the last drive of a list
-last-drive : (rounds : ℕ → ℕ → ℕ) → Detection rounds → (w n : ℕ) (before : State) (last : ℕ)
+last-drive : (rounds : Wiring → ℕ → ℕ) → Detection rounds → (w : Wiring) (n : ℕ) (before : State) (last : ℕ)
     → DrivenDetectionAfter rounds w n last before (drive w n before last).state
 last-drive rounds claim w n before last s lasts e given =
     rw (after-one-more w n s lasts last, e) at (driven-detection rounds claim w n s (lasts ++ (last ∷ [])) given)
 
 -- a drive promises the claim, wherever it stands behind other drives
-pub drive-detects : (w n : ℕ) (s : State) (last : ℕ) → DrivenDetectionInList w n last s (drive w n s last).state
+pub drive-detects : (w : Wiring) (n : ℕ) (s : State) (last : ℕ) → DrivenDetectionInList w n last s (drive w n s last).state
 drive-detects w n s last = record {
   in_square = last-drive square_rounds detection-in-square w n s last;
   in_triangle = last-drive triangle_rounds detection-in-triangle w n s last;

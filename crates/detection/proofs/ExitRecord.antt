@@ -13,6 +13,7 @@ use Rattle.table.specs.Rules.{round_over}
 use Rattle.table.proofs.Accepting.{Accepted}
 use Rattle.table.proofs.SizeLaws.{size-bounds}
 use Rattle.table.proofs.CellLaws.{accepted-line, live_exit}
+use Rattle.table.specs.declared.wiring.Wiring.{Wiring}
 use Rattle.plant.specs.Round.{rounds_after, after_round}
 use Rattle.plant.specs.Entry.{Entry, State, entry_refusal, acted, after}
 use Rattle.plant.proofs.RoundLaws.{reset-ago, reset-other}
@@ -27,7 +28,7 @@ use Rattle.detection.specs.Ceased.{LeftTold, closes_round, rounds_closed, since_
 use Rattle.detection.proofs.Fates.{SameExit, Fate, stays, leaves, hears, after-fate, acted-ago}
 
 -- one taken entry, and line k
-module _ (w n : ℕ) (s : State) (e : Entry) (ok : Accepted w n s.table) (z : entry_refusal n s e ≡ 0) (k : ℕ) (h : k < n) where
+module _ (w : Wiring) (n : ℕ) (s : State) (e : Entry) (ok : Accepted w n s.table) (z : entry_refusal n s e ≡ 0) (k : ℕ) (h : k < n) where
   abbrev t : List ℕ
   t = s.table
 
@@ -129,7 +130,7 @@ module _ {n : ℕ} (k : ℕ) (h : k < n) where
       rw (m, same.1) (told-step w n s e a z k h l m (sym same.0 ∙ two)))
 
 -- the tally of rounds
-tally-step : (w n : ℕ) (s : State) (e : Entry) → (after w n s e).rounds ≡ s.rounds + bit (closes_round (taken_at w n s e))
+tally-step : (w : Wiring) (n : ℕ) (s : State) (e : Entry) → (after w n s e).rounds ≡ s.rounds + bit (closes_round (taken_at w n s e))
 unfolding after
 tally-step w n s e = by_bool (round_over n (acted w n s.table e)) (λ o. rw o) (λ o. rw o (omega arith))
 

@@ -17,6 +17,7 @@ use Rattle.lists.proofs.BoolLaws.{by_bool, choice}
 use Rattle.lists.proofs.SearchLaws.{both}
 use Rattle.table.proofs.Accepting.{Accepted, accepted}
 use Rattle.table.proofs.CellLaws.{TurnCounts, cell_same, cell_other}
+use Rattle.table.specs.declared.wiring.Wiring.{Wiring}
 use Rattle.plant.specs.Turn.{set_status, leave_told, makes_test, replies, is_told, exchange_rows, suspect, reply_outcome, test_outcome}
 use Rattle.plant.specs.Turn.{after_outcome, after_test, is_alone, after_alone, testing, turn, turn_tested, turn_outcome, crash, finish_pass}
 use Rattle.station.specs.Outcome.{outcome_exchanged, outcome_told, outcome_tested_told}
@@ -195,7 +196,7 @@ outcome-counted n t u kind i j same hi hj =
     rw (same j status_column (omega arith) (omega arith), told, same i (head + j) (omega arith) (omega arith))
 
 -- a taken entry
-module _ (w n : ℕ) (s : State) (e : Entry) (ok : Accepted w n s.table) (z : entry_refusal n s e ≡ 0) where
+module _ (w : Wiring) (n : ℕ) (s : State) (e : Entry) (ok : Accepted w n s.table) (z : entry_refusal n s e ≡ 0) where
   open parts_of w n s e use {before as t, tester as i, distance as m, tested as j, outcome as o, counted as u}
 
   facts : Takes n s e

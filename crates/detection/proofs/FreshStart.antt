@@ -11,9 +11,7 @@ use lib.Dec.{eqb}
 use Rattle.table.specs.Sizes.{is_size}
 use Rattle.table.specs.Table.{head, stride, cell, status_column, next_column, finished_column}
 use Rattle.table.specs.Table.{tests_column, told_by_column, told_by_none, rounds_ago_column, suspects, live, status}
-use Rattle.table.specs.Rules.{exit_rule, wired_line_rules, numbered_table_refusal}
-use Rattle.table.specs.Wiring.{wiring_check}
-use Rattle.std.specs.Prelude.{Ok}
+use Rattle.table.specs.Rules.{exit_rule, line_rules, table_refusal}
 use Rattle.table.specs.Fresh.{fresh_table}
 use Rattle.lists.proofs.SearchLaws.{every-all}
 use Rattle.lists.specs.Sums.{bit}
@@ -24,6 +22,7 @@ use Rattle.table.proofs.CellLaws.{start-pass, Line, line-holds}
 use Rattle.plant.proofs.RulesKept.{unfinished-open}
 use Rattle.plant.proofs.RunLaws.{accepted-number}
 use Rattle.table.specs.Properties.{line_at_start, at_start, live_count, none_suspected, no_live_suspicion}
+use Rattle.table.specs.declared.wiring.Wiring.{Wiring}
 use Rattle.detection.specs.Runs.{taken_all}
 use Rattle.detection.specs.Rounds.{all_taken}
 use Rattle.detection.specs.Claim.{FreshMeetsPremises}
@@ -40,7 +39,7 @@ fresh-row n i k g l =
 fresh-live : (n i : ℕ) → i < n → live n (fresh_table n) i ≡ true
 fresh-live n i h = eq-eqb (status n (fresh_table n) i) 0 (fresh-at n i status_column h (omega arith))
 
-fresh-line : (w n i : ℕ) → i < n → Line w n (fresh_table n) i
+fresh-line : (w : Wiring) (n i : ℕ) → i < n → Line w n (fresh_table n) i
 unfolding exit_rule
 fresh-line w n i g =
     let status = fresh-at n i status_column g (omega arith) in
@@ -60,13 +59,12 @@ module _ (n : ℕ) where
   t = fresh_table n
 
   -- it passes refusals 1 to 4
-  pub fresh-accepted : (w : ℕ) → wiring_check w ≡ Ok tt → is_size n ≡ true → numbered_table_refusal w n t ≡ 0
-  fresh-accepted w wired size =
+  pub fresh-accepted : (w : Wiring) → is_size n ≡ true → table_refusal w n t ≡ 0
+  fresh-accepted w size =
       accepted-number w n t (record {
-        wired = wired;
         size = size;
         long = fresh-length n;
-        lines = every-all (wired_line_rules w n t) n (λ i h. line-holds w n t i (fresh-line w n i h));
+        lines = every-all (line_rules w n t) n (λ i h. line-holds w n t i (fresh-line w n i h));
         unclosed = unfinished-open n t (λ i h. fresh-at n i finished_column h (omega arith));
       })
 
@@ -91,8 +89,7 @@ module _ (n : ℕ) where
 
 pub fresh-premises : FreshMeetsPremises
 unfolding all_taken taken_all
-fresh-premises w n rounds tests wired size = record {
-  wiring = wired;
+fresh-premises w n rounds tests size = record {
   size = size;
   long = fresh-length n;
   start = fresh_start n;

@@ -15,7 +15,7 @@ use lib.Dec.{eqb, ltb}
 use lib.Pow.{pow_pos}
 use Rattle.station.specs.Groups.{station_at, is_present, member}
 use Rattle.table.specs.Sizes.{level}
-use Rattle.table.specs.Wiring.{wiring_cube, end_distance}
+use Rattle.table.specs.Wiring.{end_distance}
 use Rattle.station.specs.Wired.{wired_due}
 use Rattle.station.proofs.WiredLaws.{cube_due, cube-station}
 use Rattle.table.specs.Table.{next_column, tests_column, next_distance, tests_made, row}
@@ -33,6 +33,7 @@ use Rattle.plant.proofs.StepLines.{Lines}
 use Rattle.lists.specs.Sums.{sum_below, bit}
 use Rattle.lists.proofs.BoolLaws.{by_bool}
 use Rattle.lists.proofs.SumLaws.{sum_by, sum-zero}
+use Rattle.table.specs.declared.wiring.Wiring.TheVariants.{Cube}
 use Rattle.detection.proofs.Count.{leads, leads-zero, leads-same}
 use Rattle.station.proofs.DueLaws.{unsuspected-at, unsuspected-absent, due-first}
 use Rattle.detection.proofs.DueLaw.{due-holds}
@@ -103,14 +104,14 @@ row-due n L r long bytes i m =
         (λ h. rw (le-ltb x n (omega arith)) (unsuspected-absent r x (λ g. h (omega (arith, long)))))
 
 -- in an exact table that holds of the row of each live station
-pub exact-due : (n : ℕ) (L : ℕ → Bool) (t : List ℕ) → Plain wiring_cube n L t → Exact n L t → (i m : ℕ) → i < n → L i ≡ true
+pub exact-due : (n : ℕ) (L : ℕ → Bool) (t : List ℕ) → Plain Cube n L t → Exact n L t → (i m : ℕ) → i < n → L i ≡ true
     → due (row n t i) i m ≡ leads_at n L i m
 exact-due n L t p exact i m hi l =
     row-due n L (row n t i) (row-length n t i p.lines.0 hi)
     (λ x h. row_at n t i x h ∙ by_bool (L x) (λ e. rw e (p.accurate i x hi h l e)) (λ e. rw e (exact i x hi h l e))) i m
 
 -- where i suspects all present ahead of it in the group of x the distance to x is due
-due-now : (n : ℕ) (t : List ℕ) (h x i : ℕ) → Lines wiring_cube n t → i < n → x < n → Member h x i → ((y : ℕ) → Ahead h x i y → RowOf n t i y)
+due-now : (n : ℕ) (t : List ℕ) (h x i : ℕ) → Lines Cube n t → i < n → x < n → Member h x i → ((y : ℕ) → Ahead h x i y → RowOf n t i y)
     → due (row n t i) i (bit_xor i x) ≡ true
 due-now n t h x i lines hi hx m ahead =
     let long = row-length n t i lines.0 hi in
@@ -118,7 +119,7 @@ due-now n t h x i lines hi hx m ahead =
     (λ y a l. let y<n = rw long at l in row_at n t i y y<n ∙ ahead y a y<n)
 
 -- where no distance below M, from i's next one on, is due, i suspects all present that it knows in its pass through distances below M
-module _ (n : ℕ) (L : ℕ → Bool) (t₀ t : List ℕ) (cur : List Taken) (inv : InRound wiring_cube n L t₀ cur t) (know : Knows n L t₀ t)
+module _ (n : ℕ) (L : ℕ → Bool) (t₀ t : List ℕ) (cur : List Taken) (inv : InRound Cube n L t₀ cur t) (know : Knows n L t₀ t)
     (i : ℕ) (hi : i < n) (li : L i ≡ true) (M : ℕ)
     (undue : (m : ℕ) → next_distance n t i ≤ m → m < M → due (row n t i) i m ≡ false) where
   met-now : (h x : ℕ) → x < n → bit_xor i x < M → Asks n L t₀ i h x → ((y : ℕ) → Ahead h x i y → RowOf n t i y)
@@ -141,45 +142,45 @@ module _ (n : ℕ) (L : ℕ → Bool) (t₀ t : List ℕ) (cur : List Taken) (in
       (λ y a. known-now _ y (λ x l b. below x l (omega arith)) (ahead y a))).hears v.1 j l (r l)
 
 -- on the cube
-undue-at : (r : List ℕ) (i y : ℕ) → wired_due wiring_cube r i y ≡ due r i y
-undue-at r i y = cube_due wiring_cube r i y refl
+undue-at : (r : List ℕ) (i y : ℕ) → wired_due Cube r i y ≡ due r i y
+undue-at r i y = cube_due Cube r i y refl
 
 -- of the distances that a turn passes none before the last was due, and at one that was due it tested
-module _ (n : ℕ) (L : ℕ → Bool) (t t' : List ℕ) (i o : ℕ) (turned : TurnKept wiring_cube n L t t' i o)
-    (heads : Heads wiring_cube n t t' i o (makes_test wiring_cube n t i)) (high : next_distance n t i ≤ end_distance wiring_cube n) where
-  next-is : next_distance n t' i ≡ cond (makes_test wiring_cube n t i) (next_test wiring_cube n t i + 1) (end_distance wiring_cube n)
+module _ (n : ℕ) (L : ℕ → Bool) (t t' : List ℕ) (i o : ℕ) (turned : TurnKept Cube n L t t' i o)
+    (heads : Heads Cube n t t' i o (makes_test Cube n t i)) (high : next_distance n t i ≤ end_distance Cube n) where
+  next-is : next_distance n t' i ≡ cond (makes_test Cube n t i) (next_test Cube n t i + 1) (end_distance Cube n)
   unfolding next_after
   next-is = heads.next
 
   undue-passed : (m k : ℕ) → next_distance n t i ≤ k → k < m → m < next_distance n t' i → due (row n t i) i k ≡ false
   undue-passed m k lo l below =
-      by_bool (makes_test wiring_cube n t i)
-      (λ e. sym (undue-at (row n t i) i k) ∙ not-due-before wiring_cube n t i k lo (omega (arith, rw e at next-is)))
-      (λ e. sym (undue-at (row n t i) i k) ∙ none-due wiring_cube n t i e high k lo (omega (arith, rw e at next-is)))
+      by_bool (makes_test Cube n t i)
+      (λ e. sym (undue-at (row n t i) i k) ∙ not-due-before Cube n t i k lo (omega (arith, rw e at next-is)))
+      (λ e. sym (undue-at (row n t i) i k) ∙ none-due Cube n t i e high k lo (omega (arith, rw e at next-is)))
 
   tested-passed : (m : ℕ) → next_distance n t i ≤ m → m < next_distance n t' i → due (row n t i) i m ≡ true
       → Tested n L (Row n t i) (Row n t (station_at i m)) t' i (station_at i m)
   tested-passed m lo below is_due =
-      by_bool (makes_test wiring_cube n t i)
+      by_bool (makes_test Cube n t i)
       (λ e.
-      by_cases (dec_lt m (next_test wiring_cube n t i))
-      (λ l. absurd (true≢false (sym is_due ∙ (sym (undue-at (row n t i) i m) ∙ not-due-before wiring_cube n t i m lo l))))
+      by_cases (dec_lt m (next_test Cube n t i))
+      (λ l. absurd (true≢false (sym is_due ∙ (sym (undue-at (row n t i) i m) ∙ not-due-before Cube n t i m lo l))))
       (λ l.
-      let last : m ≡ next_test wiring_cube n t i = omega (arith, rw e at next-is) in
-      rw last (rw (cube-station wiring_cube n i (next_test wiring_cube n t i) refl) at (turned.tests e))))
+      let last : m ≡ next_test Cube n t i = omega (arith, rw e at next-is) in
+      rw last (rw (cube-station Cube n i (next_test Cube n t i) refl) at (turned.tests e))))
       (λ e. absurd (true≢false (sym is_due ∙ (sym (undue-at (row n t i) i m)
-      ∙ none-due wiring_cube n t i e high m lo (omega (arith, rw e at next-is))))))
+      ∙ none-due Cube n t i e high m lo (omega (arith, rw e at next-is))))))
 
 -- a turn of a live station keeps it
-module _ (n : ℕ) (L : ℕ → Bool) (t₀ t' : List ℕ) (cur : List Taken) (s : State) (e : Entry) (inv : InRound wiring_cube n L t₀ cur s.table)
-    (turn : TurnTaken wiring_cube n L s e t') (know : Knows n L t₀ s.table) where
+module _ (n : ℕ) (L : ℕ → Bool) (t₀ t' : List ℕ) (cur : List Taken) (s : State) (e : Entry) (inv : InRound Cube n L t₀ cur s.table)
+    (turn : TurnTaken Cube n L s e t') (know : Knows n L t₀ s.table) where
   abbrev t : List ℕ
   t = s.table
 
   abbrev i : ℕ
   i = e.station
 
-  high : next_distance n t i ≤ end_distance wiring_cube n
+  high : next_distance n t i ≤ end_distance Cube n
   high = (inv.plain.lines.1 i turn.below).pass.next_high
 
   -- at a distance that the turn passes

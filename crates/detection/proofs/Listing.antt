@@ -13,10 +13,10 @@ use Rattle.lists.specs.Search.{select}
 use Rattle.station.specs.Groups.{station_at}
 use Rattle.table.specs.Table.{next_column, next_distance, row}
 use Rattle.station.specs.Tests.{due}
-use Rattle.table.specs.Wiring.{wiring_cube}
 use Rattle.station.proofs.WiredLaws.{cube-station}
 use Rattle.lists.proofs.BoolLaws.{by_bool}
 use Rattle.lists.proofs.FilterLaws.{filter_same}
+use Rattle.table.specs.declared.wiring.Wiring.TheVariants.{Cube}
 use Rattle.plant.specs.Turn.{next_test, makes_test, turn_tested}
 use Rattle.plant.specs.Entry.{Entry, State, tested_of}
 use Rattle.plant.proofs.RoundLaws.{Reset}
@@ -50,8 +50,8 @@ unfolding tested_in
 listed_start n L t fresh exact i h = rw ((fresh i h).next, leads-zero (LiveOf n L) i, and-false)
 
 -- a taken turn keeps it
-module _ (n : ℕ) (L : ℕ → Bool) (t₀ t' : List ℕ) (cur : List Taken) (s : State) (e : Entry) (inv : InRound wiring_cube n L t₀ cur s.table)
-    (turn : TurnTaken wiring_cube n L s e t') (had : Listed n L t₀ cur s.table) where
+module _ (n : ℕ) (L : ℕ → Bool) (t₀ t' : List ℕ) (cur : List Taken) (s : State) (e : Entry) (inv : InRound Cube n L t₀ cur s.table)
+    (turn : TurnTaken Cube n L s e t') (had : Listed n L t₀ cur s.table) where
   abbrev t : List ℕ
   t = s.table
 
@@ -59,11 +59,11 @@ module _ (n : ℕ) (L : ℕ → Bool) (t₀ t' : List ℕ) (cur : List Taken) (s
   i = e.station
 
   abbrev x : Taken
-  x = taken_at wiring_cube n s e
+  x = taken_at Cube n s e
 
   -- the distance of its test, where it makes one
   abbrev tested-now : List ℕ
-  tested-now = cond (makes_test wiring_cube n t i) (next_test wiring_cube n t i ∷ []) []
+  tested-now = cond (makes_test Cube n t i) (next_test Cube n t i ∷ []) []
 
   -- the turn's own station, in a round that started exact
   own-more : Exact n L t₀ → led_below n L i (next_distance n t' i) ≡ led_below n L i (next_distance n t i) ++ tested-now
@@ -83,7 +83,7 @@ module _ (n : ℕ) (L : ℕ → Bool) (t₀ t' : List ℕ) (cur : List Taken) (s
         map-append (station_at i) (led_below n L i (next_distance n t i)) tested-now,
         ← had exact i turn.below,
       ) (tested-snoc i cur x ∙ rw (eq-eqb i i refl, turn.no_crash)
-      (by_bool (makes_test wiring_cube n t i) (λ q. rw (q, cube-station wiring_cube n i (next_test wiring_cube n t i) refl)) (λ q. rw q)))
+      (by_bool (makes_test Cube n t i) (λ q. rw (q, cube-station Cube n i (next_test Cube n t i) refl)) (λ q. rw q)))
 
   other-listed : (k : ℕ) → k < n → k ≢ i → Exact n L t₀ → tested_in k (cur ++ (x ∷ [])) ≡ map (station_at k) (led_below n L k (next_distance n t' k))
   other-listed k h apart exact =

@@ -5,13 +5,14 @@ use mathlib.Core.Bool.{Bool, true}
 use mathlib.Core.List.{List, [], ◌∷◌, ◌++◌, append_assoc}
 use Prim.Native.Nat.{ℕ}
 use lib.Dec.{eqb}
-use Rattle.table.specs.Rules.{numbered_table_refusal}
+use Rattle.table.specs.Rules.{table_refusal}
 use Rattle.lists.proofs.BoolLaws.{choice}
 use Rattle.lists.proofs.SearchLaws.{both}
 use Rattle.plant.specs.Turn.{kind_turn}
 use Rattle.plant.specs.Entry.{State, entry_of, entry_refusal, after}
 use Rattle.plant.specs.Run.{RunResult, entries, start_check, start_refusal}
 use Rattle.lists.proofs.RefusalLaws.{check_zero}
+use Rattle.table.specs.declared.wiring.Wiring.{Wiring}
 use Rattle.plant.proofs.RunLaws.{start-one, go-one, run-goes}
 use Rattle.detection.specs.Runs.{Call, Taken, turn_run, after_run, after_runs, taken_from, taken_in, taken_all}
 use Rattle.detection.specs.Rounds.{all_taken}
@@ -31,7 +32,7 @@ taken-append s (c ∷ a) b =
     rw (taken-append left a b) (sym (append_assoc (taken_in s c) (taken_all left a) (taken_all (after_runs left a) b)))
 
 -- a run of one turn that is taken
-module _ (w n : ℕ) (s : State) (i : ℕ) (ok : numbered_table_refusal w n s.table ≡ 0) (z : entry_refusal n s (entry_of kind_turn i) ≡ 0) where
+module _ (w : Wiring) (n : ℕ) (s : State) (i : ℕ) (ok : table_refusal w n s.table ≡ 0) (z : entry_refusal n s (entry_of kind_turn i) ≡ 0) where
   pub one_left : after_run s (turn_run w n i) ≡ after w n s (entry_of kind_turn i)
   one_left =
       ap (λ (o : RunResult). o.state) (run-goes w n s (turn_run w n i).schedule (turn_run w n i).sheet (start-one w n s.table ok))
@@ -53,7 +54,7 @@ pub runs_append : (q : Taken → Bool) (s : State) (a b : List Call) → all_tak
 runs_append q s a b x y = rw (taken-append s a b) (all_append q (taken_all s a) (taken_all (after_runs s a) b) x y)
 
 -- what turns pass, a run of one turn passes
-module _ (w : ℕ) (q : Taken → Bool) (turns : (n : ℕ) (s : State) (i : ℕ) → q (taken_at w n s (entry_of kind_turn i)) ≡ true) where
+module _ (w : Wiring) (q : Taken → Bool) (turns : (n : ℕ) (s : State) (i : ℕ) → q (taken_at w n s (entry_of kind_turn i)) ≡ true) where
   pub one_passes : (n : ℕ) (s : State) (i : ℕ) → all_taken q (taken_all s (turn_run w n i ∷ [])) ≡ true
   unfolding taken_all taken_in taken_from entries all_taken
   one_passes n s i =

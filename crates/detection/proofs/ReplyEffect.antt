@@ -17,6 +17,7 @@ use Rattle.lists.proofs.BoolLaws.{by_bool, choice, every-same}
 use Rattle.lists.proofs.SearchLaws.{both, every-not}
 use Rattle.table.proofs.Accepting.{accepted}
 use Rattle.table.proofs.CellLaws.{cell_same, cell_other, ClosingChanges}
+use Rattle.table.specs.declared.wiring.Wiring.{Wiring}
 use Rattle.plant.specs.Turn.{kind_turn, leave_told, makes_test, replies, is_told, exchange_rows, reply_outcome, test_outcome, after_outcome}
 use Rattle.plant.specs.Turn.{self_or_suspected, is_alone, after_alone, after_test, testing, turn, turn_tested, turn_outcome}
 use Rattle.station.specs.Outcome.{outcome_exchanged, outcome_told, outcome_tested_told}
@@ -57,7 +58,7 @@ module _ (n i : ℕ) (v : List ℕ) where
   later-stays e = later-round i status_column (omega arith) (λ p. omega arith) ∙ rw e
 
 -- a taken turn whose test has a reply: i tests j at distance m, and u is the table with the test counted
-module _ (w n : ℕ) (s : State) (e : Entry) (r : RepliedTest w n s e) where
+module _ (w : Wiring) (n : ℕ) (s : State) (e : Entry) (r : RepliedTest w n s e) where
   open parts_of w n s e use {before as t, tester as i, tested as j, counted as u}
 
   no-crash : is_crash e ≡ false

@@ -15,6 +15,7 @@ use Rattle.detection.proofs.TurnEffect.{Company, Row, Exact}
 use Rattle.detection.proofs.RoundKnowledge.{InRound, reset-rows, all-finished, Gave, RoundKnowledge}
 use Rattle.table.specs.Wiring.{is_ring}
 use Rattle.table.proofs.WiringLaws.{end_ring}
+use Rattle.table.specs.declared.wiring.Wiring.{Wiring}
 use Rattle.detection.proofs.RingTurns.{ring-turns}
 use Rattle.detection.proofs.RingSpread.{all-known}
 use Rattle.detection.proofs.RingCount.{all-tests}
@@ -28,7 +29,8 @@ KnowsOf n L t₀ t = RingKnows n L (Row n t₀) (Row n t) (next_distance n t) (t
 abbrev pub RoundOf : ℕ → (ℕ → Bool) → List ℕ → List Taken → List ℕ → Type 0
 RoundOf n L t₀ round t₁ = RingStep n L (Row n t₀) (Row n t₁) × (tests_in round ≡ n)
 
-module _ (w n : ℕ) (L : ℕ → Bool) (on-ring : is_ring w ≡ true) (two : 2 ≤ n) (company : Company n L) (z : ℕ) (hz : z < n) (lz : L z ≡ true) where
+module _ (w : Wiring) (n : ℕ) (L : ℕ → Bool) (on-ring : is_ring w ≡ true) (two : 2 ≤ n) (company : Company n L) (z : ℕ) (hz : z < n)
+    (lz : L z ≡ true) where
   pub closed-gives : (t₀ t : List ℕ) (round : List Taken) → InRound w n L t₀ round t → KnowsOf n L t₀ t → round_over n t ≡ true
       → RoundOf n L t₀ round (reset_lines n t)
   closed-gives t₀ t round inv know over =

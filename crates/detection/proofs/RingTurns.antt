@@ -9,6 +9,7 @@ use borrow.Author.Tests.{lt-ltb, le-ltb}
 use Rattle.table.specs.Wiring.{is_ring}
 use Rattle.table.specs.Table.{next_column, tests_column, next_distance, tests_made}
 use Rattle.table.proofs.WiringLaws.{end_ring}
+use Rattle.table.specs.declared.wiring.Wiring.{Wiring}
 use Rattle.station.specs.Wired.{wired_station}
 use Rattle.station.proofs.WiredLaws.{ring-station}
 use Rattle.plant.specs.Turn.{next_test, makes_test}
@@ -20,15 +21,15 @@ use Rattle.detection.proofs.TurnEffect.{Row, TurnKept}
 use Rattle.detection.proofs.RingPass.{RingTurn}
 
 -- the next distance after a test on the ring
-after-exchange : (w n m o : ℕ) → is_ring w ≡ true → o ≡ outcome_exchanged → next_after w n m o ≡ n
+after-exchange : (w : Wiring) (n m o : ℕ) → is_ring w ≡ true → o ≡ outcome_exchanged → next_after w n m o ≡ n
 unfolding next_after
 after-exchange w n m o r e = rw (r, e)
 
-after-no-reply : (w n m o : ℕ) → is_ring w ≡ true → o ≡ outcome_no_reply → next_after w n m o ≡ suc m
+after-no-reply : (w : Wiring) (n m o : ℕ) → is_ring w ≡ true → o ≡ outcome_no_reply → next_after w n m o ≡ suc m
 unfolding next_after
 after-no-reply w n m o r e = rw (r, e) (omega arith)
 
-module _ (w n : ℕ) (L : ℕ → Bool) (t t' : List ℕ) (i o : ℕ) (ring : is_ring w ≡ true) (turned : TurnKept w n L t t' i o)
+module _ (w : Wiring) (n : ℕ) (L : ℕ → Bool) (t t' : List ℕ) (i o : ℕ) (ring : is_ring w ≡ true) (turned : TurnKept w n L t t' i o)
     (heads : Heads w n t t' i o (makes_test w n t i)) where
   abbrev q : ℕ
   q = next_distance n t i

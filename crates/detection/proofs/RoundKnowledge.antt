@@ -10,6 +10,7 @@ use Rattle.lists.specs.Search.{every}
 use Rattle.lists.proofs.SearchLaws.{both, every-at}
 use Rattle.table.specs.Table.{finished}
 use Rattle.table.specs.Rules.{some_live, finished_if_live, live_finished, round_over}
+use Rattle.table.specs.declared.wiring.Wiring.{Wiring}
 use Rattle.plant.specs.Turn.{makes_test}
 use Rattle.plant.specs.Round.{reset_lines}
 use Rattle.plant.specs.Entry.{Entry, State, is_crash}
@@ -23,7 +24,7 @@ use Rattle.detection.proofs.Counting.{Counts, counts_start, turn-counts, Roomy, 
 use Rattle.detection.proofs.TurnEffect.{Plain, Grown, Exact, TurnKept, same_rows}
 
 -- within a round that started with t₀, after its entries `cur`, at the table t
-pub record InRound (w n : ℕ) (L : ℕ → Bool) (t₀ : List ℕ) (cur : List Taken) (t : List ℕ) : Type 0 where
+pub record InRound (w : Wiring) (n : ℕ) (L : ℕ → Bool) (t₀ : List ℕ) (cur : List Taken) (t : List ℕ) : Type 0 where
   pub fresh : (i : ℕ) → i < n → Reset n t₀ i
   pub opened : Plain w n L t₀
   pub opens : (x : Taken) → x.before.table ≡ t → first_table (cur ++ (x ∷ [])) ≡ t₀
@@ -32,7 +33,7 @@ pub record InRound (w n : ℕ) (L : ℕ → Bool) (t₀ : List ℕ) (cur : List 
   pub plain : Plain w n L t
   pub grown : Grown n t₀ t
 
-pub round-start : (w n : ℕ) (L : ℕ → Bool) (t : List ℕ) → Plain w n L t → ((i : ℕ) → i < n → Reset n t i) → InRound w n L t [] t
+pub round-start : (w : Wiring) (n : ℕ) (L : ℕ → Bool) (t : List ℕ) → Plain w n L t → ((i : ℕ) → i < n → Reset n t i) → InRound w n L t [] t
 unfolding first_table
 round-start w n L t p fresh = record {
   fresh = fresh;
@@ -45,15 +46,15 @@ round-start w n L t p fresh = record {
 }
 
 -- the round rule leaves status and rows
-pub reset-rows : (w n : ℕ) (L : ℕ → Bool) (t : List ℕ) → Plain w n L t → Plain w n L (reset_lines n t) × Grown n t (reset_lines n t)
+pub reset-rows : (w : Wiring) (n : ℕ) (L : ℕ → Bool) (t : List ℕ) → Plain w n L t → Plain w n L (reset_lines n t) × Grown n t (reset_lines n t)
 reset-rows w n L t p = same_rows w n L t (reset_lines n t) (reset-lines w n t p.lines) (λ k c h _ changes. reset-other n t k c h changes) p
 
 -- the table after a round has closed is the start of the next
-pub restart : (w n : ℕ) (L : ℕ → Bool) (t : List ℕ) → Plain w n L t → InRound w n L (reset_lines n t) [] (reset_lines n t)
+pub restart : (w : Wiring) (n : ℕ) (L : ℕ → Bool) (t : List ℕ) → Plain w n L t → InRound w n L (reset_lines n t) [] (reset_lines n t)
 restart w n L t p = round-start w n L (reset_lines n t) (reset-rows w n L t p).0 (reset-cells n t p.lines.0)
 
 -- the entry e, taken as a turn of a live station, leaves the table t', before the round rule
-pub record TurnTaken (w n : ℕ) (L : ℕ → Bool) (s : State) (e : Entry) (t' : List ℕ) : Type 0 where
+pub record TurnTaken (w : Wiring) (n : ℕ) (L : ℕ → Bool) (s : State) (e : Entry) (t' : List ℕ) : Type 0 where
   pub no_crash : is_crash e ≡ false
   pub below : e.station < n
   pub is_live : L e.station ≡ true
@@ -68,7 +69,7 @@ first-snoc [] x y = refl
 first-snoc (z ∷ xs) x y = refl
 
 -- it keeps what holds within a round
-pub turn-in-round : (w n : ℕ) (L : ℕ → Bool) (t₀ t' : List ℕ) (cur : List Taken) (s : State) (e : Entry) → InRound w n L t₀ cur s.table
+pub turn-in-round : (w : Wiring) (n : ℕ) (L : ℕ → Bool) (t₀ t' : List ℕ) (cur : List Taken) (s : State) (e : Entry) → InRound w n L t₀ cur s.table
     → TurnTaken w n L s e t' → InRound w n L t₀ (cur ++ (taken_at w n s e ∷ [])) t'
 turn-in-round w n L t₀ t' cur s e inv turn = record {
   fresh = inv.fresh;
@@ -81,7 +82,8 @@ turn-in-round w n L t₀ t' cur s e inv turn = record {
 }
 
 -- where the round is over every live station has finished its pass
-pub all-finished : (w n : ℕ) (L : ℕ → Bool) (t : List ℕ) → Plain w n L t → round_over n t ≡ true → (i : ℕ) → i < n → L i ≡ true → finished n t i ≡ 1
+pub all-finished : (w : Wiring) (n : ℕ) (L : ℕ → Bool) (t : List ℕ) → Plain w n L t → round_over n t ≡ true → (i : ℕ) → i < n → L i ≡ true
+    → finished n t i ≡ 1
 unfolding live_finished
 all-finished w n L t p over i h l =
     let all = (both (some_live n t) (every (finished_if_live n t) n) over).1 in
@@ -93,7 +95,7 @@ abbrev pub Gave : (List ℕ → List Taken → List ℕ → Type 0) → (ℕ →
 Gave Gives start round closed = (q : ℕ) → q < closed → Gives (start q) (round q) (start (suc q))
 
 -- what the claim takes of who tests whom, at size n with the live set L
-pub record RoundKnowledge (w n : ℕ) (L : ℕ → Bool) : Type 1 where
+pub record RoundKnowledge (w : Wiring) (n : ℕ) (L : ℕ → Bool) : Type 1 where
   -- what is known within a round that started with t₀, after its entries `cur`, at the table t
   pub Knows : List ℕ → List Taken → List ℕ → Type 0
   pub starts : (t : List ℕ) → InRound w n L t [] t → Knows t [] t

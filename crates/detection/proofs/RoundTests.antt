@@ -12,7 +12,7 @@ use borrow.Author.Tests.{eqb-true, eqb-false, eq-eqb}
 use lib.ListN.{length, get_or}
 use Rattle.lists.specs.Sums.{bit}
 use Rattle.table.specs.Sizes.{distances}
-use Rattle.table.specs.Wiring.{wiring_cube, end_distance}
+use Rattle.table.specs.Wiring.{end_distance}
 use Rattle.table.proofs.WiringLaws.{end-cube}
 use Rattle.table.specs.Table.{head, table_length, status_column, next_distance, finished, tests_made, suspects, row, status_crashed}
 use Rattle.table.specs.Rules.{round_over}
@@ -24,6 +24,8 @@ use Rattle.lists.proofs.SearchLaws.{both, every-at}
 use Rattle.lists.proofs.SumLaws.{sum-split}
 use Rattle.table.proofs.Accepting.{Accepted}
 use Rattle.table.proofs.CellLaws.{cell_other, row-length, row_same, accepted-line}
+use Rattle.table.specs.declared.wiring.Wiring.{Wiring}
+use Rattle.table.specs.declared.wiring.Wiring.TheVariants.{Cube}
 use Rattle.station.proofs.UnionLaws.{mark-length}
 use Rattle.station.proofs.EntryLaws.{unsuspected-below}
 use Rattle.plant.specs.Turn.{kind_crash, crash, next_test, outcome_at}
@@ -51,19 +53,19 @@ tests-counted : (n : ℕ) (t₀ : List ℕ) (cur : List Taken) (t : List ℕ) �
 tests-counted n t₀ cur t fresh c i h = omega (arith, c.turns i h, c.ended i h, (fresh i h).unfinished, (fresh i h).untested, turns-split i cur)
 
 -- in a round that started with t₀, behind the entries `cur`
-record Timed (w n : ℕ) (t₀ : List ℕ) (cur : List Taken) (t : List ℕ) : Type 0 where
+record Timed (w : Wiring) (n : ℕ) (t₀ : List ℕ) (cur : List Taken) (t : List ℕ) : Type 0 where
   pub fresh : (i : ℕ) → i < n → Reset n t₀ i
   pub counts : Counts n t₀ cur t
-  pub fits : w ≡ wiring_cube → TestsAreDue n t
+  pub fits : w ≡ Cube → TestsAreDue n t
   pub lines : Lines w n t
 
 -- what a round with entries leaves: a table whose rows all its tests are due by
-record Leaves (w n : ℕ) (round : List Taken) (t : List ℕ) : Type 0 where
+record Leaves (w : Wiring) (n : ℕ) (round : List Taken) (t : List ℕ) : Type 0 where
   pub lines : Lines w n t
-  pub within : w ≡ wiring_cube → (i : ℕ) → i < n → tests_by i round ≤ tests_due n (row n t i) i
+  pub within : w ≡ Cube → (i : ℕ) → i < n → tests_by i round ≤ tests_due n (row n t i) i
 
 -- the distances passed are some of all
-leaves : (w n : ℕ) (t₀ : List ℕ) (cur : List Taken) (t : List ℕ) → Timed w n t₀ cur t → Leaves w n cur t
+leaves : (w : Wiring) (n : ℕ) (t₀ : List ℕ) (cur : List Taken) (t : List ℕ) → Timed w n t₀ cur t → Leaves w n cur t
 leaves w n t₀ cur t inv = record {
   lines = inv.lines;
   within = λ c i h.
@@ -80,7 +82,7 @@ leaves w n t₀ cur t inv = record {
 }
 
 -- the closing of a round leaves the rows
-closed-leaves : (w n : ℕ) (round : List Taken) (t : List ℕ) → Leaves w n round t → Leaves w n round (reset_lines n t)
+closed-leaves : (w : Wiring) (n : ℕ) (round : List Taken) (t : List ℕ) → Leaves w n round t → Leaves w n round (reset_lines n t)
 closed-leaves w n round t l =
     let lines = reset-lines w n t l.lines in
     record {
@@ -92,7 +94,7 @@ closed-leaves w n round t l =
     }
 
 -- where a round starts
-timed-start : (w n : ℕ) (t : List ℕ) → ((i : ℕ) → i < n → Reset n t i) → Lines w n t → Timed w n t [] t
+timed-start : (w : Wiring) (n : ℕ) (t : List ℕ) → ((i : ℕ) → i < n → Reset n t i) → Lines w n t → Timed w n t [] t
 timed-start w n t fresh lines = record {
   fresh = fresh;
   counts = counts_start n t;
@@ -107,15 +109,15 @@ left-snoc t [] x = refl
 left-snoc t (y ∷ xs) x = left-snoc (table_after y) xs x
 
 -- a round without entries, or one that leaves such a table; T is any table
-abbrev RoundFits : ℕ → ℕ → List ℕ → List Taken → Type 0
+abbrev RoundFits : Wiring → ℕ → List ℕ → List Taken → Type 0
 RoundFits w n T round = (round ≡ []) ⊎ Leaves w n round (table_left T round)
 
 -- the rounds r, to the table `end`
-abbrev Cut : ℕ → ℕ → List ℕ → Rounds → Type 0
+abbrev Cut : Wiring → ℕ → List ℕ → Rounds → Type 0
 Cut w n T r = (k : ℕ) → k ≤ length r.closed → RoundFits w n T (get_or (all_rounds r) k [])
 
 -- a taken entry
-module _ (w n : ℕ) (s : State) (e : Entry) (ok : Accepted w n s.table) (takes : entry_refusal n s e ≡ 0) (t₀ : List ℕ) (cur : List Taken)
+module _ (w : Wiring) (n : ℕ) (s : State) (e : Entry) (ok : Accepted w n s.table) (takes : entry_refusal n s e ≡ 0) (t₀ : List ℕ) (cur : List Taken)
     (fresh : (i : ℕ) → i < n → Reset n t₀ i) (counts : Counts n t₀ cur s.table) where
   abbrev t : List ℕ
   t = s.table
@@ -167,7 +169,7 @@ chain-counted n {s} {s'} (more {xs = xs} w e ok takes chain) t₀ cur fresh coun
     (λ t₁ now fresh counts. chain-counted n chain t₁ now fresh counts i h)
 
 -- a taken entry, on one wiring
-module _ (w n : ℕ) (s : State) (e : Entry) (ok : Accepted w n s.table) (takes : entry_refusal n s e ≡ 0) (t₀ : List ℕ) (cur : List Taken)
+module _ (w : Wiring) (n : ℕ) (s : State) (e : Entry) (ok : Accepted w n s.table) (takes : entry_refusal n s e ≡ 0) (t₀ : List ℕ) (cur : List Taken)
     (inv : Timed w n t₀ cur s.table) where
   abbrev u' : List ℕ
   u' = acted w n s.table e
@@ -213,7 +215,7 @@ module _ (w n : ℕ) (s : State) (e : Entry) (ok : Accepted w n s.table) (takes 
           rw (closing ∙ over) (rest t₀ so_far (rw over moved) (inr (rw end left)))
 
 -- a chain on one wiring, cut into rounds
-cut-chain : (w n : ℕ) (T : List ℕ) {s s' : State} {xs : List Taken} → WiredChain w n s xs s' → (t₀ : List ℕ) (cur : List Taken)
+cut-chain : (w : Wiring) (n : ℕ) (T : List ℕ) {s s' : State} {xs : List Taken} → WiredChain w n s xs s' → (t₀ : List ℕ) (cur : List Taken)
     → Timed w n t₀ cur s.table → RoundFits w n T cur → Cut w n T (cut cur xs)
 unfolding cut
 cut-chain w n T {s} ends t₀ cur inv fits = λ k h. let e : k ≡ 0 = omega arith in rw e fits
@@ -228,7 +230,7 @@ start-reset n t start i h =
     record { next = eqb-true _ 1 head.0; unfinished = eqb-true _ 0 head.1; untested = eqb-true _ 0 all.1 }
 
 -- a list of runs on one wiring from the start of a round on
-rounds-cut : (w n : ℕ) (s : State) (calls : List Call) → length s.table ≡ table_length n → at_start n s.table ≡ true
+rounds-cut : (w : Wiring) (n : ℕ) (s : State) (calls : List Call) → length s.table ≡ table_length n → at_start n s.table ≡ true
     → all_taken (is_on w) (taken_all s calls) ≡ true → Cut w n s.table (rounds_of s calls)
 unfolding cut
 rounds-cut w n s calls long start one = go (chain_first chain)
@@ -243,7 +245,7 @@ rounds-cut w n s calls long start one = go (chain_first chain)
         cut-chain w n s.table chain s.table [] (timed-start w n s.table (start-reset n s.table start) lines) (inl refl)
 
 -- a row that suspects no more than r and j
-wider-mark-row : (n : ℕ) (t : List ℕ) → Lines wiring_cube n t → (r : List ℕ) (i j : ℕ) → i < n → j ≢ i → length r ≡ n
+wider-mark-row : (n : ℕ) (t : List ℕ) → Lines Cube n t → (r : List ℕ) (i j : ℕ) → i < n → j ≢ i → length r ≡ n
     → unsuspected r i ≡ true → SuspectsAtMost n t i r j → Wider (row n t i) (mark r j) i
 wider-mark-row n t lines r i j h apart long own few = record {
   long = mark-length r j ∙ long ∙ sym (row-length n t i lines.0 h);
@@ -268,17 +270,17 @@ tests-byte-counts n s calls i long start h =
 
 pub tests-within-due : TestsWithinDue
 unfolding count_taken
-tests-within-due n s calls k i long start one far h = pick (rounds-cut wiring_cube n s calls long start one k far)
+tests-within-due n s calls k i long start one far h = pick (rounds-cut Cube n s calls long start one k far)
   where
-    pick : RoundFits wiring_cube n s.table (round_at s calls k) → tests_by i (round_at s calls k) ≤ tests_due n (row n (end_of s calls k) i) i
+    pick : RoundFits Cube n s.table (round_at s calls k) → tests_by i (round_at s calls k) ≤ tests_due n (row n (end_of s calls k) i) i
     pick (inl none) = rw none (omega arith)
     pick (inr l) = l.within refl i h
 
 pub slot-suffices : SlotSuffices
 unfolding count_taken
-slot-suffices n s calls k r i j long start one far h l apart row_long own few = pick (rounds-cut wiring_cube n s calls long start one k far)
+slot-suffices n s calls k r i j long start one far h l apart row_long own few = pick (rounds-cut Cube n s calls long start one k far)
   where
-    pick : RoundFits wiring_cube n s.table (round_at s calls k) → tests_by i (round_at s calls k) ≤ most_tests n r i
+    pick : RoundFits Cube n s.table (round_at s calls k) → tests_by i (round_at s calls k) ≤ most_tests n r i
     pick (inl none) = rw none (omega arith)
     pick (inr at) =
         let wider = wider-mark-row n (end_of s calls k) at.lines r i j h apart row_long own few in

@@ -12,6 +12,7 @@ use lib.ListN.{length}
 use Rattle.table.specs.Table.{head, table_length, status_column, suspects, status_alone, status_crashed}
 use Rattle.lists.proofs.BoolLaws.{by_bool, choice}
 use Rattle.table.proofs.CellLaws.{cell_other}
+use Rattle.table.specs.declared.wiring.Wiring.{Wiring}
 use Rattle.plant.specs.Turn.{outcome_at, set_status, leave_told, next_test, makes_test, finish_pass, count_test}
 use Rattle.plant.specs.Turn.{suspect, after_outcome, after_test, is_alone, after_alone, testing, turn, crash}
 use Rattle.station.specs.Outcome.{outcome_exchanged, outcome_told, outcome_tested_told}
@@ -58,7 +59,7 @@ test-grows n t o i j long hi hj apart small =
         pick (yes e) (no f) = omega (arith, suspect-other n t i long hi j k (head + y) (omega arith) (λ q. omega arith))
         pick (no e) f = omega (arith, suspect-other n t i long hi j k (head + y) (omega arith) (λ q. absurd (e q)))
 
-turn-grows : (w n : ℕ) (t : List ℕ) (kind i : ℕ) → Lines w n t → i < n → Grows n t (turn w n t kind i)
+turn-grows : (w : Wiring) (n : ℕ) (t : List ℕ) (kind i : ℕ) → Lines w n t → i < n → Grows n t (turn w n t kind i)
 unfolding turn testing after_test after_alone
 turn-grows w n t kind i lines h =
     by_bool (makes_test w n t i) (λ e. rw e (tests e))
@@ -91,7 +92,7 @@ turn-grows w n t kind i lines h =
         choice (λ u. suspects n t₂ k y ≤ suspects n u k y) (is_alone n t₂ i) (omega (arith, left-rows n t₂ i status_alone k y hy)) (omega arith) in
         omega (arith, counted k y hy, grown, last)
 
-pub acted-grows : (w n : ℕ) (t : List ℕ) (e : Entry) → Lines w n t → e.station < n → Grows n t (acted w n t e)
+pub acted-grows : (w : Wiring) (n : ℕ) (t : List ℕ) (e : Entry) → Lines w n t → e.station < n → Grows n t (acted w n t e)
 unfolding acted crash
 acted-grows w n t e lines h =
     choice (Grows n t) (is_crash e) (same_grows n t _ (left-rows n t e.station status_crashed)) (turn-grows w n t e.kind e.station lines h)

@@ -12,9 +12,10 @@ use Rattle.lists.specs.Sums.{bit}
 use Rattle.detection.specs.Runs.{Taken, is_turn_of, finishes}
 use Rattle.detection.specs.Rounds.{any_taken, count_taken, turns_in, nth_turn_finishes}
 use Rattle.lists.proofs.BoolLaws.{by_bool}
+use Rattle.table.specs.declared.wiring.Wiring.{Wiring}
 
 -- an entry as it is taken
-abbrev pub taken_at : ℕ → ℕ → State → Entry → Taken
+abbrev pub taken_at : Wiring → ℕ → State → Entry → Taken
 taken_at w n s e = record { wiring = w; size = n; before = s; entry = e }
 
 -- whether any entry passes q, where at most one does

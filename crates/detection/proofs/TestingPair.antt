@@ -12,6 +12,7 @@ use Rattle.station.specs.Wired.{wired_station}
 use Rattle.station.proofs.WiredLaws.{station-apart}
 use Rattle.table.proofs.Accepting.{Accepted}
 use Rattle.table.proofs.CellLaws.{accepted-line}
+use Rattle.table.specs.declared.wiring.Wiring.{Wiring}
 use Rattle.plant.specs.Turn.{next_test, makes_test, count_test, outcome_at}
 use Rattle.plant.proofs.NextTest.{next_test-low, test_below, test-station}
 use Rattle.plant.proofs.StepCells.{count_test-other}
@@ -29,7 +30,7 @@ pub record Parts : Type 0 where
   pub outcome : ℕ
   pub counted : List ℕ
 
-abbrev pub parts_of : ℕ → ℕ → State → Entry → Parts
+abbrev pub parts_of : Wiring → ℕ → State → Entry → Parts
 parts_of w n s e =
     let i = e.station in
     let m = next_test w n s.table i in
@@ -41,7 +42,7 @@ abbrev pub Counted : ℕ → List ℕ → List ℕ → Type 0
 Counted n t u = (k c : ℕ) → c < stride n → (c ≢ next_column) × (c ≢ tests_column) → cell n u k c ≡ cell n t k c
 
 -- i, which is live at t, tests j, and u is t with the test counted
-pub record Pair (w n : ℕ) (t u : List ℕ) (i j : ℕ) : Type 0 where
+pub record Pair (w : Wiring) (n : ℕ) (t u : List ℕ) (i j : ℕ) : Type 0 where
   pub lines : Lines w n t
   pub below : i < n
   pub tested_below : j < n
@@ -51,10 +52,10 @@ pub record Pair (w n : ℕ) (t u : List ℕ) (i j : ℕ) : Type 0 where
   pub others : Counted n t u
 
 -- the count itself, whoever tests
-pub count-others : (w n : ℕ) (s : State) (e : Entry) → Counted n (parts_of w n s e).before (parts_of w n s e).counted
+pub count-others : (w : Wiring) (n : ℕ) (s : State) (e : Entry) → Counted n (parts_of w n s e).before (parts_of w n s e).counted
 count-others w n s e k c h out = count_test-other n s.table e.station w (parts_of w n s e).distance (parts_of w n s e).outcome k c h (λ _. out)
 
-pub testing-pair : (w n : ℕ) (s : State) (e : Entry) → Accepted w n s.table → entry_refusal n s e ≡ 0 → is_crash e ≡ false
+pub testing-pair : (w : Wiring) (n : ℕ) (s : State) (e : Entry) → Accepted w n s.table → entry_refusal n s e ≡ 0 → is_crash e ≡ false
     → makes_test w n s.table e.station ≡ true
     → Pair w n (parts_of w n s e).before (parts_of w n s e).counted (parts_of w n s e).tester (parts_of w n s e).tested
 testing-pair w n s e ok z no-crash makes =

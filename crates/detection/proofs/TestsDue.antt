@@ -12,12 +12,12 @@ use borrow.Author.Tests.{eqb-true, eq-eqb}
 use lib.Dec.{eqb}
 use lib.ListN.{length}
 use Rattle.lists.specs.Sums.{sum_below, bit}
-use Rattle.table.specs.Wiring.{wiring_cube}
 use Rattle.table.specs.Table.{table_length, status_column, next_column, tests_column, cell, next_distance, tests_made, suspects, row, status_crashed}
 use Rattle.station.specs.Tests.{unsuspected, due}
 use Rattle.lists.proofs.BoolLaws.{by_bool}
 use Rattle.table.proofs.Accepting.{Accepted}
 use Rattle.table.proofs.CellLaws.{cell_other, row-length, row_at, accepted-line, TurnCounts}
+use Rattle.table.specs.declared.wiring.Wiring.TheVariants.{Cube}
 use Rattle.station.proofs.DueLaws.{unsuspected-at}
 use Rattle.station.proofs.EntryLaws.{unsuspected-below}
 use Rattle.plant.specs.Turn.{makes_test, next_test, outcome_at, crash}
@@ -36,7 +36,7 @@ row-unsuspected n t k x long hk hx =
     unsuspected-at (row n t k) x (omega (arith, row-length n t k long hk)) ∙ ap (λ (v : ℕ). eqb v 0) (row_at n t k x hx)
 
 -- a row that has grown
-wider-rows : (n : ℕ) (t t' : List ℕ) → Lines wiring_cube n t → Lines wiring_cube n t' → Grows n t t'
+wider-rows : (n : ℕ) (t t' : List ℕ) → Lines Cube n t → Lines Cube n t' → Grows n t t'
     → (k : ℕ) → k < n → Wider (row n t k) (row n t' k) k
 wider-rows n t t' lines lines' grows k h = record {
   long = row-length n t' k lines'.0 h ∙ sym (row-length n t k lines.0 h);
@@ -56,30 +56,30 @@ abbrev pub TestsAreDue : ℕ → List ℕ → Type 0
 TestsAreDue n t = (i : ℕ) → i < n → tests_made n t i ≤ dues_of n t i (next_distance n t i)
 
 -- a taken entry keeps it
-module _ (n : ℕ) (s : State) (e : Entry) (ok : Accepted wiring_cube n s.table) (takes : entry_refusal n s e ≡ 0) (fits : TestsAreDue n s.table) where
+module _ (n : ℕ) (s : State) (e : Entry) (ok : Accepted Cube n s.table) (takes : entry_refusal n s e ≡ 0) (fits : TestsAreDue n s.table) where
   abbrev t : List ℕ
   t = s.table
 
   abbrev t' : List ℕ
-  t' = acted wiring_cube n t e
+  t' = acted Cube n t e
 
   abbrev i : ℕ
   i = e.station
 
   o : ℕ
-  o = outcome_at wiring_cube n t e.kind i (next_test wiring_cube n t i)
+  o = outcome_at Cube n t e.kind i (next_test Cube n t i)
 
   below : i < n
   below = (entry-facts n s e takes).below
 
-  lines : Lines wiring_cube n t
-  lines = (ok.long, accepted-line wiring_cube n t ok)
+  lines : Lines Cube n t
+  lines = (ok.long, accepted-line Cube n t ok)
 
   -- by the row as it is after the entry no fewer are due
   later : (k : ℕ) → k < n → (b : ℕ) → dues_of n t k b ≤ dues_of n t' k b
   later k h =
       fewer-below (row n t k) (row n t' k) k
-      (wider-rows n t t' lines (acted-lines wiring_cube n s e ok takes) (acted-grows wiring_cube n t e lines (below)) k h)
+      (wider-rows n t t' lines (acted-lines Cube n s e ok takes) (acted-grows Cube n t e lines (below)) k h)
 
   -- a line whose next distance and tests stay
   stays : (k : ℕ) → k < n → next_distance n t' k ≡ next_distance n t k → tests_made n t' k ≡ tests_made n t k
@@ -96,7 +96,7 @@ module _ (n : ℕ) (s : State) (e : Entry) (ok : Accepted wiring_cube n s.table)
   turn-fits : is_crash e ≡ false → TestsAreDue n t'
   unfolding acted o
   turn-fits c k h =
-      let heads : Heads wiring_cube n t t' i o (makes_test wiring_cube n t i) = rw c (turn-heads wiring_cube n t e.kind i lines (below)) in
+      let heads : Heads Cube n t t' i o (makes_test Cube n t i) = rw c (turn-heads Cube n t e.kind i lines (below)) in
       by_cases (ℕ_discrete k i)
       (λ q.
       let passed = passed-dues n t t' i o heads (lines.1 i (below)).pass.next_high in

@@ -22,9 +22,10 @@ use Rattle.plant.proofs.StepLines.{Lines, finish_pass-lines, count_test-lines, s
 use Rattle.plant.proofs.NextTest.{next_test-low, test_below, test-station}
 use Rattle.lists.proofs.BoolLaws.{by_bool}
 use Rattle.table.proofs.CellLaws.{TurnCounts, ClosingChanges}
+use Rattle.table.specs.declared.wiring.Wiring.{Wiring}
 
 -- a table that obeys the line rules, with live set L, in which no live station suspects a live one
-pub record Plain (w n : ℕ) (L : ℕ → Bool) (t : List ℕ) : Type 0 where
+pub record Plain (w : Wiring) (n : ℕ) (L : ℕ → Bool) (t : List ℕ) : Type 0 where
   pub lines : Lines w n t
   pub lives : (i : ℕ) → i < n → live n t i ≡ L i
   pub accurate : (i j : ℕ) → i < n → j < n → L i ≡ true → L j ≡ true → suspects n t i j ≡ 0
@@ -62,7 +63,7 @@ tested-more n L t t' i x hi hx grows m s w = record {
 }
 
 -- a table with other bytes only where a turn counts or closing a round changes them
-pub same_rows : (w n : ℕ) (L : ℕ → Bool) (t t' : List ℕ) → Lines w n t'
+pub same_rows : (w : Wiring) (n : ℕ) (L : ℕ → Bool) (t t' : List ℕ) → Lines w n t'
     → ((k c : ℕ) → c < stride n → ¬ (TurnCounts c) → ¬ (ClosingChanges c) → cell n t' k c ≡ cell n t k c)
     → Plain w n L t → Plain w n L t' × Grown n t t'
 same_rows w n L t t' lines same p = (
@@ -93,7 +94,8 @@ module _ (n : ℕ) (t : List ℕ) (i x : ℕ) (long : length t ≡ table_length 
   exchange-between k y h = between k y h (ℕ_discrete i k) (ℕ_discrete x k) (ℕ_discrete y k)
 
 -- the test of x by the live i
-module _ (w n : ℕ) (L : ℕ → Bool) (t : List ℕ) (i x : ℕ) (p : Plain w n L t) (hi : i < n) (hx : x < n) (apart : i ≢ x) (li : L i ≡ true) where
+module _ (w : Wiring) (n : ℕ) (L : ℕ → Bool) (t : List ℕ) (i x : ℕ) (p : Plain w n L t) (hi : i < n) (hx : x < n) (apart : i ≢ x)
+    (li : L i ≡ true) where
   long : length t ≡ table_length n
   long = p.lines.0
 
@@ -177,7 +179,7 @@ module _ (w n : ℕ) (L : ℕ → Bool) (t : List ℕ) (i x : ℕ) (p : Plain w 
   outcome-effect = by_bool (L x) (λ e. rw e (exchanged e)) (λ e. rw e (marked e))
 
 -- a turn of i, whatever the wiring, of whose test o is the outcome: where it makes a test, it tests the station there
-pub record TurnKept (w n : ℕ) (L : ℕ → Bool) (t t' : List ℕ) (i o : ℕ) : Type 0 where
+pub record TurnKept (w : Wiring) (n : ℕ) (L : ℕ → Bool) (t t' : List ℕ) (i o : ℕ) : Type 0 where
   pub plain : Plain w n L t'
   pub grows : Grown n t t'
   pub outcome : makes_test w n t i ≡ true
@@ -186,7 +188,7 @@ pub record TurnKept (w n : ℕ) (L : ℕ → Bool) (t t' : List ℕ) (i o : ℕ)
       → Tested n L (Row n t i) (Row n t (wired_station w n i (next_test w n t i))) t' i (wired_station w n i (next_test w n t i))
 
 -- a station with a live one beside it that it does not suspect is not alone
-pub not-alone : (w n : ℕ) (L : ℕ → Bool) (t : List ℕ) (i : ℕ) → Plain w n L t → Company n L → i < n → L i ≡ true → after_alone n t i ≡ t
+pub not-alone : (w : Wiring) (n : ℕ) (L : ℕ → Bool) (t : List ℕ) (i : ℕ) → Plain w n L t → Company n L → i < n → L i ≡ true → after_alone n t i ≡ t
 unfolding after_alone is_alone self_or_suspected
 not-alone w n L t i p company hi li =
     let o = company i hi li in
@@ -194,7 +196,8 @@ not-alone w n L t i p company hi li =
     rw (every-not (self_or_suspected n t i) n o.0 o.1 fails, and-false)
 
 -- a turn of a live station, where the reply of a live station is not late
-pub turn-effect : (w n : ℕ) (L : ℕ → Bool) (t : List ℕ) (kind i : ℕ) → Plain w n L t → Company n L → i < n → L i ≡ true → finished n t i ≡ 0
+pub turn-effect : (w : Wiring) (n : ℕ) (L : ℕ → Bool) (t : List ℕ) (kind i : ℕ) → Plain w n L t → Company n L → i < n → L i ≡ true
+    → finished n t i ≡ 0
     → (makes_test w n t i ≡ true → L (wired_station w n i (next_test w n t i)) ≡ true → kind ≡ kind_turn)
     → TurnKept w n L t (turn w n t kind i) i (outcome_at w n t kind i (next_test w n t i))
 unfolding turn testing after_test

@@ -3,13 +3,13 @@
 use Rattle.std.specs.Prelude.{ℕ, ◌≤◌, ◌<◌, ◌≡◌, Bool, true, ◌&&◌, List, [], ◌∷◌, map, length, if◌then◌else◌, ◌==◌, slice_index_or}
 use Rattle.station.specs.Groups.{station_at}
 use Rattle.table.specs.Sizes.{dimension}
-use Rattle.table.specs.Wiring.{wiring_cube}
 use Rattle.table.specs.Table.{live}
 use Rattle.station.specs.Tests.{due_distances}
 use Rattle.plant.specs.Entry.{State, tested_of}
 use Rattle.detection.specs.Runs.{Call, Taken, taken_test}
 use Rattle.detection.specs.Claim.{rounds_of, DetectionPremises, worst_latency}
 use Rattle.table.specs.Properties.{exact_row, ExactRows}
+use Rattle.table.specs.declared.wiring.Wiring.TheVariants.{Cube}
 
 -- the station that the taken entry tests; 255 where it makes no test
 abbrev pub station_tested : Taken → ℕ
@@ -39,11 +39,11 @@ TestsAreTheDue n s calls k =
 -- on the cube, in a closed round that begins with exact rows, each live board makes just these tests. By rule Detection the live boards stay live
 abbrev pub ExactRoundTests : Type 0
 ExactRoundTests =
-    (n : ℕ) (s : State) (calls : List Call) → DetectionPremises wiring_cube n s calls → (k : ℕ) → k < length (rounds_of s calls).closed
+    (n : ℕ) (s : State) (calls : List Call) → DetectionPremises Cube n s calls → (k : ℕ) → k < length (rounds_of s calls).closed
     → ExactRows n (first_table (slice_index_or (rounds_of s calls).closed k [])) → TestsAreTheDue n s calls k
 
 -- Rule Tests of the sheet: on the cube, after the worst-case latency, that is so in every closed round
 abbrev pub ExactRoundTestsAfterLatency : Type 0
 ExactRoundTestsAfterLatency =
-    (n : ℕ) (s : State) (calls : List Call) → DetectionPremises wiring_cube n s calls
+    (n : ℕ) (s : State) (calls : List Call) → DetectionPremises Cube n s calls
     → (k : ℕ) → worst_latency (dimension n) ≤ k → k < length (rounds_of s calls).closed → TestsAreTheDue n s calls k

@@ -3,7 +3,8 @@
 -- Assumes nothing.
 use Rattle.std.specs.Prelude.{◌≡◌, ◌≢◌, Bool, true, false, List, [], ◌∷◌, ℕ, ◌+◌, min, ◌≤◌, ◌<◌, length, if◌then◌else◌}
 use Rattle.table.specs.Table.{table_length, status, status_told, told_by, not_recorded, rounds_ago, rounds_ago_top, suspects, live}
-use Rattle.table.specs.Rules.{numbered_table_refusal, round_over}
+use Rattle.table.specs.Rules.{table_refusal, round_over}
+use Rattle.table.specs.declared.wiring.Wiring.{Wiring}
 use Rattle.station.specs.Outcome.{outcome_told, outcome_tested_told}
 use Rattle.plant.specs.Entry.{Entry, State, entry_refusal, acted, after, tested_of, outcome_of}
 use Rattle.detection.specs.Runs.{Call, Taken, after_runs, taken_all, table_after}
@@ -21,7 +22,7 @@ pub record LeftTold (n : ℕ) (t t' : List ℕ) (a b : ℕ) : Type 0 where
   pub suspected : suspects n t b a ≡ 1
 
 -- a taken entry: by its outcome, who left and who told it, and whose byte 4 stays
-pub record WhoTold (w n : ℕ) (s : State) (e : Entry) : Type 0 where
+pub record WhoTold (w : Wiring) (n : ℕ) (s : State) (e : Entry) : Type 0 where
   -- outcome 2: the station of the entry, told by the tested one
   pub tester : outcome_of w n s.table e ≡ outcome_told → LeftTold n s.table (after w n s e).table e.station (tested_of w n s.table e)
   -- outcome 5: the tested one, told by the station of the entry
@@ -30,10 +31,10 @@ pub record WhoTold (w n : ℕ) (s : State) (e : Entry) : Type 0 where
   pub others : (k : ℕ) → k < n → (outcome_of w n s.table e ≡ outcome_told → k ≢ e.station)
       → (outcome_of w n s.table e ≡ outcome_tested_told → k ≢ tested_of w n s.table e) → told_by n (after w n s e).table k ≡ told_by n s.table k
 
--- Rule Teller named: at every entry that a run reaches, refusals 24 and 1 to 4 let its table through (`accepted-kept` of plant's
+-- Rule Teller named: at every entry that a run reaches, refusals 1 to 4 let its table through (`accepted-kept` of plant's
 -- proofs/RulesKept.antt)
 abbrev pub TellerIsNamed : Type 0
-TellerIsNamed = (w n : ℕ) (s : State) (e : Entry) → numbered_table_refusal w n s.table ≡ 0 → entry_refusal n s e ≡ 0 → WhoTold w n s e
+TellerIsNamed = (w : Wiring) (n : ℕ) (s : State) (e : Entry) → table_refusal w n s.table ≡ 0 → entry_refusal n s e ≡ 0 → WhoTold w n s e
 
 -- a round closes with the taken entry
 abbrev pub closes_round : Taken → Bool

@@ -1,19 +1,20 @@
 -- The detection claim, within any number of rounds, and the bounds for which it holds.
 -- Assumes nothing.
-use Rattle.std.specs.Prelude.{Ok, ℕ, suc, ◌+◌, ◌-◌, ◌*◌, ◌/◌, ◌≤◌, ◌<◌, ◌≡◌, Bool, true, not, ◌&&◌}
+use Rattle.std.specs.Prelude.{ℕ, suc, ◌+◌, ◌-◌, ◌*◌, ◌/◌, ◌≤◌, ◌<◌, ◌≡◌, Bool, true, not, ◌&&◌}
 use Rattle.std.specs.Prelude.{List, [], ◌∷◌, ◌++◌, length, if◌then◌else◌, nat_lt, slice_index_or}
 use Rattle.lists.specs.Search.{every}
 use Rattle.table.specs.Sizes.{is_size, dimension}
-use Rattle.table.specs.Wiring.{is_ring, wiring_check}
+use Rattle.table.specs.Wiring.{is_ring}
 use Rattle.table.specs.Fresh.{fresh_table}
 use Rattle.station.specs.Groups.{is_present, width, member}
 use Rattle.table.specs.Table.{table_length, suspects, live}
-use Rattle.table.specs.Rules.{not_live, numbered_table_refusal}
+use Rattle.table.specs.Rules.{not_live, table_refusal}
 use Rattle.plant.specs.Entry.{State, state_of}
 use Rattle.lists.specs.Sums.{sum_below, bit}
 use Rattle.detection.specs.Runs.{Call, Taken, after_runs, taken_all, crashes, is_late, is_on}
 use Rattle.detection.specs.Rounds.{all_taken, Rounds, cut, tests_in, tests_of_all, turns_in, nth_turn_finishes}
 use Rattle.table.specs.Properties.{at_start, live_count, none_suspected}
+use Rattle.table.specs.declared.wiring.Wiring.{Wiring}
 
 -- a board stands at the number x, and it is live
 abbrev pub stands_at : ℕ → (ℕ → Bool) → ℕ → Bool
@@ -59,20 +60,19 @@ abbrev pub TurnsOk : ℕ → ℕ → List Taken → Type 0
 TurnsOk n i round = (turns_in i round ≤ n) × (n ≤ turns_in i round → nth_turn_finishes i n round ≡ true)
 
 -- Rule Count of tests, of any wiring: on the ring n
-abbrev pub count_by : ℕ → ℕ → ℕ → ℕ
+abbrev pub count_by : Wiring → ℕ → ℕ → ℕ
 count_by w n pairs = if is_ring w then n else tests_less n pairs
 
-abbrev pub count_of : ℕ → ℕ → List ℕ → ℕ
+abbrev pub count_of : Wiring → ℕ → List ℕ → ℕ
 count_of w n t = count_by w n (pairs_without_live n t)
 
 -- from which round on it holds, where so many are enough: on the ring from the first
-abbrev pub counted_from : ℕ → ℕ → ℕ
+abbrev pub counted_from : Wiring → ℕ → ℕ
 counted_from w enough = if is_ring w then 0 else enough
 
--- Rule Detection conditions: a wiring, a size and a table of its length, at the start of a round, two live boards at least, no live one suspecting a
+-- Rule Detection conditions: a size and a table of its length, at the start of a round, two live boards at least, no live one suspecting a
 -- live one; any tally, any list of runs, without crashes and late replies of live boards
-pub record DetectionPremises (w n : ℕ) (s : State) (calls : List Call) : Type 0 where
-  pub wiring : wiring_check w ≡ Ok tt
+pub record DetectionPremises (w : Wiring) (n : ℕ) (s : State) (calls : List Call) : Type 0 where
   pub size : is_size n ≡ true
   pub long : length s.table ≡ table_length n
   pub start : at_start n s.table ≡ true
@@ -87,7 +87,7 @@ abbrev pub AllKnow : ℕ → List ℕ → List ℕ → Type 0
 AllKnow n t end = (i j : ℕ) → i < n → j < n → live n t i ≡ true → suspects n end i j ≡ bit (not_live n t j)
 
 -- Rule Detection: what the claim says of table and tally after the list, where so many rounds are enough
-pub record DetectionConclusion (enough w n : ℕ) (s : State) (calls : List Call) (end : State) : Type 0 where
+pub record DetectionConclusion (enough : ℕ) (w : Wiring) (n : ℕ) (s : State) (calls : List Call) (end : State) : Type 0 where
   -- the live boards are the same as at first
   pub same_live : (i : ℕ) → i < n → live n end.table i ≡ live n s.table i
   -- in every round, the open one included, a live board has at most n turns, and an nth turn finished its pass
@@ -103,19 +103,19 @@ pub record DetectionConclusion (enough w n : ℕ) (s : State) (calls : List Call
   pub tests_tally : end.tests ≡ s.tests + tests_of_all (all_rounds (rounds_of s calls))
 
 -- the claim on a wiring at size n, for all tables, tallies and lists of runs, within so many rounds
-abbrev pub DetectionAt : ℕ → ℕ → ℕ → Type 0
+abbrev pub DetectionAt : Wiring → ℕ → ℕ → Type 0
 DetectionAt w n enough =
     (s : State) (calls : List Call) → DetectionPremises w n s calls → DetectionConclusion enough w n s calls (after_runs s calls)
 
 -- Rule Worst case, and the greater bounds: the claim on each wiring at all sizes, within so many rounds by wiring and size
-abbrev pub Detection : (ℕ → ℕ → ℕ) → Type 0
-Detection rounds = (w n : ℕ) → DetectionAt w n (rounds w n)
+abbrev pub Detection : (Wiring → ℕ → ℕ) → Type 0
+Detection rounds = (w : Wiring) (n : ℕ) → DetectionAt w n (rounds w n)
 
 -- the same of one run, `c`, from `before` to `after`: wherever it stands behind other runs, the claim about the whole list with it holds of
 -- the state that it leaves
-abbrev pub DetectionAfter : (ℕ → ℕ → ℕ) → Call → State → State → Type 0
+abbrev pub DetectionAfter : (Wiring → ℕ → ℕ) → Call → State → State → Type 0
 DetectionAfter rounds c before after =
-    (w n : ℕ) (s : State) (calls : List Call) → after_runs s calls ≡ before → DetectionPremises w n s (calls ++ (c ∷ []))
+    (w : Wiring) (n : ℕ) (s : State) (calls : List Call) → after_runs s calls ≡ before → DetectionPremises w n s (calls ++ (c ∷ []))
     → DetectionConclusion (rounds w n) w n s (calls ++ (c ∷ [])) after
 
 -- Rule Square bound: d·d rounds, on the cube
@@ -123,7 +123,7 @@ abbrev pub square_bound : ℕ → ℕ
 square_bound d = d * d
 
 -- Rules Square bound and Greater bound of the ring: on the ring n − 1
-abbrev pub square_rounds : ℕ → ℕ → ℕ
+abbrev pub square_rounds : Wiring → ℕ → ℕ
 square_rounds w n = if is_ring w then n - 1 else square_bound (dimension n)
 
 -- Rule Square bound: detection within these
@@ -135,7 +135,7 @@ abbrev pub triangle_bound : ℕ → ℕ
 triangle_bound d = 1 + d * (d - 1) / 2
 
 -- Rules Triangular bound and Greater bound of the ring: on the ring n − 1
-abbrev pub triangle_rounds : ℕ → ℕ → ℕ
+abbrev pub triangle_rounds : Wiring → ℕ → ℕ
 triangle_rounds w n = if is_ring w then n - 1 else triangle_bound (dimension n)
 
 -- Rule Triangular bound: detection within these
@@ -152,15 +152,15 @@ abbrev pub ring_latency : ℕ → ℕ
 ring_latency n = n / 2
 
 -- the worst case by wiring and size
-abbrev pub worst_rounds : ℕ → ℕ → ℕ
+abbrev pub worst_rounds : Wiring → ℕ → ℕ
 worst_rounds w n = if is_ring w then ring_latency n else worst_latency (dimension n)
 
--- a fresh table of any size passes refusals 24 and 1 to 4, on each wiring
+-- a fresh table of any size passes refusals 1 to 4, on each wiring
 abbrev pub FreshIsAccepted : Type 0
-FreshIsAccepted = (w n : ℕ) → wiring_check w ≡ Ok tt → is_size n ≡ true → numbered_table_refusal w n (fresh_table n) ≡ 0
+FreshIsAccepted = (w : Wiring) (n : ℕ) → is_size n ≡ true → table_refusal w n (fresh_table n) ≡ 0
 
 -- Rule Conditions are met: a fresh table, with any tally, meets on each wiring and at every size what is supposed of wiring, size and table.
 -- Drives need no more (`DrivenDetection`)
 abbrev pub FreshMeetsPremises : Type 0
 FreshMeetsPremises =
-    (w n rounds tests : ℕ) → wiring_check w ≡ Ok tt → is_size n ≡ true → DetectionPremises w n (state_of (fresh_table n) rounds tests) []
+    (w : Wiring) (n rounds tests : ℕ) → is_size n ≡ true → DetectionPremises w n (state_of (fresh_table n) rounds tests) []

@@ -2,6 +2,7 @@
 -- Assumes nothing.
 use Rattle.std.specs.Prelude.{◌≡◌, List, [], ◌∷◌, ◌++◌, map, ℕ, zero, suc, ◌+◌, ◌≤◌, ◌<◌, length, ◌==◌}
 use Rattle.lists.specs.Sums.{bit}
+use Rattle.table.specs.declared.wiring.Wiring.{Wiring}
 use Rattle.plant.specs.Turn.{kind_turn}
 use Rattle.plant.specs.Entry.{State, entry_of, entry_refusal}
 use Rattle.detection.specs.Runs.{Call, turn_run, after_run, after_runs, taken_all}
@@ -10,16 +11,16 @@ use Rattle.granter.specs.Grant.{grant_refusal}
 use Rattle.granter.specs.Drive.{Stand, stand_at, granted_at, after_grants, drive}
 
 -- the runs (1, g1), (1, g2), .. of the first k grants
-unfoldable pub runs_of : ℕ → ℕ → Stand → ℕ → List Call
+unfoldable pub runs_of : Wiring → ℕ → Stand → ℕ → List Call
 runs_of w n p zero = []
 runs_of w n p (suc k) = runs_of w n p k ++ (turn_run w n (granted_at n (after_grants w n p k)) ∷ [])
 
 -- those of a drive, as many as it says that it made
-abbrev pub runs_of_drive : ℕ → ℕ → State → ℕ → List Call
+abbrev pub runs_of_drive : Wiring → ℕ → State → ℕ → List Call
 runs_of_drive w n s last = runs_of w n (stand_at s last) (drive w n s last).grants
 
 -- its answer and table are those of the list of these runs
-pub record TurnByTurn (w n : ℕ) (s : State) (last : ℕ) : Type 0 where
+pub record TurnByTurn (w : Wiring) (n : ℕ) (s : State) (last : ℕ) : Type 0 where
   -- no grant is refused
   pub granted : (k : ℕ) → k < (drive w n s last).grants
       → grant_refusal w n (after_grants w n (stand_at s last) k).state.table (after_grants w n (stand_at s last) k).last ≡ 0
@@ -34,12 +35,12 @@ pub record TurnByTurn (w n : ℕ) (s : State) (last : ℕ) : Type 0 where
 
 -- Rule Drive is turns: for all inputs
 abbrev pub DriveIsTurns : Type 0
-DriveIsTurns = (w n : ℕ) (s : State) (last : ℕ) → TurnByTurn w n s last
+DriveIsTurns = (w : Wiring) (n : ℕ) (s : State) (last : ℕ) → TurnByTurn w n s last
 
 -- a list that mixes runs and drives; a drive has any wiring, any size and any last number
 pub data RunOrDrive : Type 0 where
   a_run : Call → RunOrDrive
-  a_drive : ℕ → ℕ → ℕ → RunOrDrive
+  a_drive : Wiring → ℕ → ℕ → RunOrDrive
 
 -- table and tally after one of them, and the runs that it is
 abbrev pub after_one : State → RunOrDrive → State
@@ -60,25 +61,25 @@ runs_of_mixed s [] = []
 runs_of_mixed s (x ∷ xs) = runs_of_one s x ++ runs_of_mixed (after_one s x) xs
 
 -- Rule Detection by drives: detection of such a list, within so many rounds by wiring and size, of the runs that it is
-abbrev pub MixedDetection : (ℕ → ℕ → ℕ) → Type 0
+abbrev pub MixedDetection : (Wiring → ℕ → ℕ) → Type 0
 MixedDetection rounds =
-    (w n : ℕ) (s : State) (xs : List RunOrDrive) → DetectionPremises w n s (runs_of_mixed s xs)
+    (w : Wiring) (n : ℕ) (s : State) (xs : List RunOrDrive) → DetectionPremises w n s (runs_of_mixed s xs)
     → DetectionConclusion (rounds w n) w n s (runs_of_mixed s xs) (after_mixed s xs)
 
 -- drives of one size, each with any last number (a drive of another size is refused): table and tally after them, the runs that they are, and
 -- how many of them answer 0
-abbrev pub after_drives : ℕ → ℕ → State → List ℕ → State
+abbrev pub after_drives : Wiring → ℕ → State → List ℕ → State
 after_drives w n s lasts = after_mixed s (map (a_drive w n) lasts)
 
-abbrev pub runs_of_drives : ℕ → ℕ → State → List ℕ → List Call
+abbrev pub runs_of_drives : Wiring → ℕ → State → List ℕ → List Call
 runs_of_drives w n s lasts = runs_of_mixed s (map (a_drive w n) lasts)
 
-unfoldable pub ending : ℕ → ℕ → State → List ℕ → ℕ
+unfoldable pub ending : Wiring → ℕ → State → List ℕ → ℕ
 ending w n s [] = 0
 ending w n s (last ∷ lasts) = bit ((drive w n s last).number == 0) + ending w n (drive w n s last).state lasts
 
 -- what the claim says of driven plants, where so many rounds are enough
-pub record DrivenDetectionConclusion (enough w n : ℕ) (s : State) (lasts : List ℕ) (end : State) : Type 0 where
+pub record DrivenDetectionConclusion (enough : ℕ) (w : Wiring) (n : ℕ) (s : State) (lasts : List ℕ) (end : State) : Type 0 where
   -- detection, of the list of their runs
   pub detection : DetectionConclusion enough w n s (runs_of_drives w n s lasts) end
   -- each drive that answers 0 closes one round, and no other closes one
@@ -88,9 +89,9 @@ pub record DrivenDetectionConclusion (enough w n : ℕ) (s : State) (lasts : Lis
 
 -- Rule Detection by drives: the claim, within so many rounds by wiring and size. It supposes the detection conditions on the table: those of no
 -- run at all. Drives have no crash and no late reply
-abbrev pub DrivenDetection : (ℕ → ℕ → ℕ) → Type 0
+abbrev pub DrivenDetection : (Wiring → ℕ → ℕ) → Type 0
 DrivenDetection rounds =
-    (w n : ℕ) (s : State) (lasts : List ℕ) → DetectionPremises w n s []
+    (w : Wiring) (n : ℕ) (s : State) (lasts : List ℕ) → DetectionPremises w n s []
     → DrivenDetectionConclusion (rounds w n) w n s lasts (after_drives w n s lasts)
 
 -- detection of driven plants within d·d rounds on the cube, n − 1 on the ring
@@ -99,7 +100,7 @@ DrivenDetectionInSquare = DrivenDetection square_rounds
 
 -- the same of one drive, from `before` to `after`: wherever it stands behind other drives, the claim about the whole list with it holds of
 -- the state that it leaves
-abbrev pub DrivenDetectionAfter : (ℕ → ℕ → ℕ) → ℕ → ℕ → ℕ → State → State → Type 0
+abbrev pub DrivenDetectionAfter : (Wiring → ℕ → ℕ) → Wiring → ℕ → ℕ → State → State → Type 0
 DrivenDetectionAfter rounds w n last before after =
     (s : State) (lasts : List ℕ) → after_drives w n s lasts ≡ before → DetectionPremises w n s []
     → DrivenDetectionConclusion (rounds w n) w n s (lasts ++ (last ∷ [])) after

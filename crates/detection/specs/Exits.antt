@@ -4,15 +4,16 @@
 use Rattle.std.specs.Prelude.{◌≡◌, ◌≢◌, true, List, ℕ, max, ◌<◌, if◌then◌else◌}
 use Rattle.lists.specs.Search.{every}
 use Rattle.table.specs.Table.{status, suspects, live, status_told, status_alone}
-use Rattle.table.specs.Rules.{numbered_table_refusal}
+use Rattle.table.specs.Rules.{table_refusal}
+use Rattle.table.specs.declared.wiring.Wiring.{Wiring}
 use Rattle.plant.specs.Turn.{replies, self_or_suspected}
 use Rattle.station.specs.Outcome.{outcome_exchanged, outcome_told, outcome_tested_told}
 use Rattle.plant.specs.Entry.{Entry, State, is_test, entry_refusal, after, tested_of, outcome_of}
 
--- a taken entry whose test has a reply. At every entry that a run reaches, refusals 24 and 1 to 4 let its table through (`accepted-kept` of
+-- a taken entry whose test has a reply. At every entry that a run reaches, refusals 1 to 4 let its table through (`accepted-kept` of
 -- plant's proofs/RulesKept.antt)
-pub record RepliedTest (w n : ℕ) (s : State) (e : Entry) : Type 0 where
-  pub shape : numbered_table_refusal w n s.table ≡ 0
+pub record RepliedTest (w : Wiring) (n : ℕ) (s : State) (e : Entry) : Type 0 where
+  pub shape : table_refusal w n s.table ≡ 0
   pub taken : entry_refusal n s e ≡ 0
   pub makes : is_test w n s.table e ≡ true
   pub reply : replies n s.table e.kind (tested_of w n s.table e) ≡ true
@@ -48,5 +49,5 @@ pub record ReplyEffect (n : ℕ) (t t' : List ℕ) (i j o : ℕ) : Type 0 where
 -- Rule Reply ends: the claim
 abbrev pub ReplyEnds : Type 0
 ReplyEnds =
-    (w n : ℕ) (s : State) (e : Entry) → RepliedTest w n s e
+    (w : Wiring) (n : ℕ) (s : State) (e : Entry) → RepliedTest w n s e
     → ReplyEffect n s.table (after w n s e).table e.station (tested_of w n s.table e) (outcome_of w n s.table e)

@@ -2,23 +2,25 @@
 -- Assumes nothing.
 use Rattle.std.specs.Prelude.{◌≡◌, ℕ, Bool, not, ◌&&◌, List, [], ◌∷◌, ◌++◌, length, if◌then◌else◌, ◌==◌}
 use Rattle.table.specs.Table.{live}
+use Rattle.table.specs.Wiring.{same_wiring}
+use Rattle.table.specs.declared.wiring.Wiring.{Wiring}
 use Rattle.plant.specs.Turn.{kind_turn, kind_late}
 use Rattle.plant.specs.Entry.{Entry, State, is_crash, is_test, entry_refusal, after, tested_of}
 use Rattle.plant.specs.Run.{entries, start_refusal, run}
 
 -- what one run of the list is given anew: its wiring, size, schedule and run sheet, which may be any
 pub record Call : Type 0 where
-  pub wiring : ℕ
+  pub wiring : Wiring
   pub size : ℕ
   pub schedule : List ℕ
   pub sheet : List ℕ
 
 -- a run's own inputs by their parts
-abbrev pub call_of : ℕ → ℕ → List ℕ → List ℕ → Call
+abbrev pub call_of : Wiring → ℕ → List ℕ → List ℕ → Call
 call_of w n schedule sheet = record { wiring = w; size = n; schedule = schedule; sheet = sheet }
 
 -- a run of one entry, (1, i): a turn of station i. What its sheet of four bytes held does not matter
-abbrev pub turn_run : ℕ → ℕ → ℕ → Call
+abbrev pub turn_run : Wiring → ℕ → ℕ → Call
 turn_run w n i = call_of w n (kind_turn ∷ i ∷ []) (0 ∷ 0 ∷ 0 ∷ 0 ∷ [])
 
 -- table and tally as a run leaves them
@@ -32,13 +34,13 @@ after_runs s (c ∷ cs) = after_runs (after_run s c) cs
 
 -- a taken entry: the wiring and the size of its run, and table and tally as it found them
 pub record Taken : Type 0 where
-  pub wiring : ℕ
+  pub wiring : Wiring
   pub size : ℕ
   pub before : State
   pub entry : Entry
 
 -- the taken entries of a run that is not refused at its start: it takes an entry if it comes to it and none of refusals 7 to 11 applies
-unfoldable pub taken_from : ℕ → ℕ → State → List Entry → List Taken
+unfoldable pub taken_from : Wiring → ℕ → State → List Entry → List Taken
 taken_from w n s [] = []
 taken_from w n s (e ∷ es) =
     if entry_refusal n s e == 0 then (record { wiring = w; size = n; before = s; entry = e } ∷ taken_from w n (after w n s e) es) else []
@@ -83,5 +85,5 @@ abbrev pub is_late : Taken → Bool
 is_late x = x.entry.kind == kind_late && taken_test x && live x.size x.before.table (tested_of x.wiring x.size x.before.table x.entry)
 
 -- a taken entry of a run on the wiring w
-abbrev pub is_on : ℕ → Taken → Bool
-is_on w x = x.wiring == w
+abbrev pub is_on : Wiring → Taken → Bool
+is_on w x = same_wiring x.wiring w

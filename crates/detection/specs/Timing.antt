@@ -5,11 +5,11 @@
 use Rattle.std.specs.Prelude.{◌≡◌, ◌≢◌, ◌⊎◌, true, false, List, [], ◌∷◌, ℕ, ◌≤◌, ◌<◌, length, slice_index_or}
 use Rattle.table.specs.Table.{table_length, tests_made, suspects, row, live}
 use Rattle.station.specs.Tests.{unsuspected}
-use Rattle.table.specs.Wiring.{wiring_cube}
 use Rattle.plant.specs.Entry.{State}
 use Rattle.detection.specs.Runs.{Call, Taken, after_runs, taken_all, table_after, is_on}
 use Rattle.detection.specs.Rounds.{count_taken, all_taken}
 use Rattle.table.specs.Properties.{at_start, exact_row, ExactRows}
+use Rattle.table.specs.declared.wiring.Wiring.TheVariants.{Cube}
 use Rattle.detection.specs.Claim.{rounds_of, round_at, DetectionPremises}
 use Rattle.detection.specs.Boards.{is_test_of, tested_in, first_table}
 use Rattle.slots.specs.Slots.{tested, tests_due, most_tests}
@@ -18,7 +18,7 @@ use Rattle.slots.specs.Slots.{tested, tests_due, most_tests}
 -- with the boards dead that are not live (`ExactRoundTests`, in the sheet's words)
 abbrev pub TestsAreTheSheets : Type 0
 TestsAreTheSheets =
-    (n : ℕ) (s : State) (calls : List Call) → DetectionPremises wiring_cube n s calls → (k : ℕ) → k < length (rounds_of s calls).closed
+    (n : ℕ) (s : State) (calls : List Call) → DetectionPremises Cube n s calls → (k : ℕ) → k < length (rounds_of s calls).closed
     → ExactRows n (first_table (slice_index_or (rounds_of s calls).closed k [])) → (i : ℕ) → i < n → live n s.table i ≡ true
     → tested_in i (slice_index_or (rounds_of s calls).closed k []) ≡ tested n (exact_row n s.table) i
 
@@ -48,7 +48,7 @@ end_of s calls k = table_left s.table (round_at s calls k)
 abbrev pub TestsWithinDue : Type 0
 TestsWithinDue =
     (n : ℕ) (s : State) (calls : List Call) (k i : ℕ) → length s.table ≡ table_length n → at_start n s.table ≡ true
-    → all_taken (is_on wiring_cube) (taken_all s calls) ≡ true → k ≤ length (rounds_of s calls).closed → i < n
+    → all_taken (is_on Cube) (taken_all s calls) ≡ true → k ≤ length (rounds_of s calls).closed → i < n
     → tests_by i (round_at s calls k) ≤ tests_due n (row n (end_of s calls k) i) i
 
 -- board i suspects at table t nobody but those that row r suspects, and j
@@ -61,6 +61,6 @@ abbrev pub SlotSuffices : Type 0
 SlotSuffices =
     (n : ℕ) (s : State) (calls : List Call) (k : ℕ) (r : List ℕ) (i j : ℕ)
     → length s.table ≡ table_length n → at_start n s.table ≡ true
-    → all_taken (is_on wiring_cube) (taken_all s calls) ≡ true → k ≤ length (rounds_of s calls).closed → i < n → j < n → j ≢ i
+    → all_taken (is_on Cube) (taken_all s calls) ≡ true → k ≤ length (rounds_of s calls).closed → i < n → j < n → j ≢ i
     → length r ≡ n → unsuspected r i ≡ true
     → SuspectsAtMost n (end_of s calls k) i r j → tests_by i (round_at s calls k) ≤ most_tests n r i

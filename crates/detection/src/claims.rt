@@ -16,7 +16,7 @@ pub fn detection()
     ensures detection_in_triangle { DetectionInTriangle }
     // The same within the worst-case latency on the cube, n/2 rounds on the ring.
     ensures detection_in_worst_case { Detection worst_rounds }
-    // A fresh table of any size passes refusals 24 and 1 to 4, on each wiring.
+    // A fresh table of any size passes refusals 1 to 4, on each wiring.
     ensures fresh_is_accepted { FreshIsAccepted }
     // A fresh table, with any tally, meets the detection conditions on a table.
     ensures fresh_meets_premises { FreshMeetsPremises }
@@ -49,7 +49,7 @@ pub fn driven()
 {}
 
 // Who leaves after a test with a reply (specs/Exits.antt).
-pub fn exits()
+pub fn reply_ends()
     // Where a tested station replies: by who suspects whom, which of the two leaves, and what becomes of the rows.
     ensures { ReplyEnds }
 {}

@@ -1,9 +1,9 @@
 -- Examples of grants and of drives, in two tables: what the definitions compute, and what is expected. One statement covers each.
 -- Assumes nothing.
 use Rattle.std.specs.Prelude.{refl, List, [], ◌∷◌, map, ℕ, ◌+◌}
-use Rattle.table.specs.Wiring.{wiring_cube}
 use Rattle.table.specs.Table.{head, set_cell, status_column}
 use Rattle.table.specs.Fresh.{fresh_table}
+use Rattle.table.specs.declared.wiring.Wiring.TheVariants.{Cube}
 use Rattle.plant.specs.Turn.{finish_pass}
 use Rattle.plant.specs.Entry.{state_of}
 use Rattle.granter.specs.Grant.{waits, first_from, following, granted, grant_check, grant_refusal, grant_answer, grant_station}
@@ -17,11 +17,11 @@ grants_of t = map (granted 4 t) (255 ∷ 0 ∷ 1 ∷ 2 ∷ 3 ∷ [])
 
 -- four boards: 2 is dead and 3 has finished its pass
 unfoldable pub two_wait : List ℕ
-two_wait = finish_pass wiring_cube 4 (set_cell 4 (fresh_table 4) 2 status_column 1) 3
+two_wait = finish_pass Cube 4 (set_cell 4 (fresh_table 4) 2 status_column 1) 3
 
 -- and so has 0
 unfoldable pub one_waits : List ℕ
-one_waits = finish_pass wiring_cube 4 two_wait 0
+one_waits = finish_pass Cube 4 two_wait 0
 
 -- four boards, none of them live
 unfoldable pub all_dead : List ℕ
@@ -33,10 +33,10 @@ drive_figures d = d.number ∷ d.state.rounds ∷ d.state.tests ∷ d.last ∷ d
 
 -- two boards, fresh, and two that suspect one another
 unfoldable pub two_fresh : DriveResult
-two_fresh = drive wiring_cube 2 (state_of (fresh_table 2) 0 0) 255
+two_fresh = drive Cube 2 (state_of (fresh_table 2) 0 0) 255
 
 unfoldable pub two_suspecting : DriveResult
-two_suspecting = drive wiring_cube 2 (state_of (set_cell 2 (set_cell 2 (fresh_table 2) 0 (head + 1) 1) 1 (head + 0) 1) 0 0) 255
+two_suspecting = drive Cube 2 (state_of (set_cell 2 (set_cell 2 (fresh_table 2) 0 (head + 1) 1) 1 (head + 0) 1) 0 0) 255
 
 unfoldable pub examples : List Example
 examples =
@@ -47,9 +47,9 @@ examples =
     -- the last granted station comes last: alone live and unfinished, it is granted again
     ∷ expect (grants_of one_waits) (1 ∷ 1 ∷ 1 ∷ 1 ∷ 1 ∷ [])
     -- refusal 16 for a last number of n or more that is not 255, then 17 when no station is live
-    ∷ expect (map (grant_refusal wiring_cube 4 (fresh_table 4)) (3 ∷ 4 ∷ 254 ∷ 255 ∷ 256 ∷ [])) (0 ∷ 16 ∷ 16 ∷ 0 ∷ 16 ∷ [])
-    ∷ expect (map (grant_refusal wiring_cube 4 all_dead) (3 ∷ 4 ∷ 255 ∷ [])) (17 ∷ 16 ∷ 17 ∷ [])
-    ∷ expect (grant_station wiring_cube 4 all_dead 3 ∷ grant_station wiring_cube 4 (fresh_table 4) 4 ∷ []) (0 ∷ 0 ∷ [])
+    ∷ expect (map (grant_refusal Cube 4 (fresh_table 4)) (3 ∷ 4 ∷ 254 ∷ 255 ∷ 256 ∷ [])) (0 ∷ 16 ∷ 16 ∷ 0 ∷ 16 ∷ [])
+    ∷ expect (map (grant_refusal Cube 4 all_dead) (3 ∷ 4 ∷ 255 ∷ [])) (17 ∷ 16 ∷ 17 ∷ [])
+    ∷ expect (grant_station Cube 4 all_dead 3 ∷ grant_station Cube 4 (fresh_table 4) 4 ∷ []) (0 ∷ 0 ∷ [])
     ∷ []
 
 -- of drives
@@ -59,15 +59,15 @@ drives =
     expect (drive_figures two_fresh) (0 ∷ 1 ∷ 2 ∷ 1 ∷ 4 ∷ [])
     ∷ expect two_fresh.state.table (fresh_table 2)
     -- one after the other: the second drive begins behind the last granted station
-    ∷ expect (drive_figures (drive wiring_cube 2 two_fresh.state two_fresh.last)) (0 ∷ 2 ∷ 4 ∷ 1 ∷ 4 ∷ [])
+    ∷ expect (drive_figures (drive Cube 2 two_fresh.state two_fresh.last)) (0 ∷ 2 ∷ 4 ∷ 1 ∷ 4 ∷ [])
     -- a drive stops with 7 before a grant while a counter is full, and keeps the turns made
-    ∷ expect (drive_figures (drive wiring_cube 2 (state_of (fresh_table 2) 0 4294967295) 1)) (7 ∷ 0 ∷ 4294967295 ∷ 1 ∷ 0 ∷ [])
-    ∷ expect (drive_figures (drive wiring_cube 2 (state_of (fresh_table 2) 0 4294967294) 0)) (7 ∷ 0 ∷ 4294967295 ∷ 1 ∷ 1 ∷ [])
+    ∷ expect (drive_figures (drive Cube 2 (state_of (fresh_table 2) 0 4294967295) 1)) (7 ∷ 0 ∷ 4294967295 ∷ 1 ∷ 0 ∷ [])
+    ∷ expect (drive_figures (drive Cube 2 (state_of (fresh_table 2) 0 4294967294) 0)) (7 ∷ 0 ∷ 4294967295 ∷ 1 ∷ 1 ∷ [])
     -- the turn that brings the rounds to the top closes the round: 0
-    ∷ expect (drive_figures (drive wiring_cube 2 (state_of (fresh_table 2) 4294967294 0) 255)) (0 ∷ 4294967295 ∷ 2 ∷ 1 ∷ 4 ∷ [])
+    ∷ expect (drive_figures (drive Cube 2 (state_of (fresh_table 2) 4294967294 0) 255)) (0 ∷ 4294967295 ∷ 2 ∷ 1 ∷ 4 ∷ [])
     -- 0 tests 1, is told and leaves; 1 tests 0, which is not live, and leaves as alone: nobody is left live, and no round closed
     ∷ expect (drive_figures two_suspecting) (0 ∷ 0 ∷ 2 ∷ 1 ∷ 2 ∷ [])
-    ∷ expect (drive_figures (drive wiring_cube 2 two_suspecting.state two_suspecting.last)) (17 ∷ 0 ∷ 2 ∷ 1 ∷ 0 ∷ [])
+    ∷ expect (drive_figures (drive Cube 2 two_suspecting.state two_suspecting.last)) (17 ∷ 0 ∷ 2 ∷ 1 ∷ 0 ∷ [])
     ∷ []
 
 pub grants-hold : AllHold examples

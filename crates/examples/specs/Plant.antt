@@ -2,7 +2,6 @@
 -- Assumes nothing.
 use Rattle.std.specs.Prelude.{ℕ, ◌+◌, List, [], ◌∷◌, map, drop, replicate, refl}
 use Rattle.station.specs.Groups.{group, station_at}
-use Rattle.table.specs.Wiring.{wiring_cube}
 use Rattle.table.specs.Table.{head, line_start, set_cell, status_column, next_column, told_by_column, rounds_ago_column}
 use Rattle.table.specs.Table.{told_by, row}
 use Rattle.table.specs.Rules.{table_refusal}
@@ -13,6 +12,7 @@ use Rattle.plant.specs.Turn.{finish_pass}
 use Rattle.plant.specs.Entry.{state_of}
 use Rattle.plant.specs.Run.{RunResult, run}
 use Rattle.lists.specs.Sums.{sum_below}
+use Rattle.table.specs.declared.wiring.Wiring.TheVariants.{Cube}
 use Rattle.detection.specs.Claim.{group_without_live, pairs_without_live, tests_per_round}
 use Rattle.examples.specs.Example.{Example, expect, AllHold}
 use Rattle.plant.proofs.WholeRun.{whole_run}
@@ -41,11 +41,11 @@ four_dead_of_eleven = set_cell 11 (fresh_table 11) 4 status_column 1
 
 -- N = 4, fresh, entries (2, 0), (1, 0), (1, 0), (1, 1)
 unfoldable pub four_boards : RunResult
-four_boards = run wiring_cube 4 (state_of (fresh_table 4) 0 0) (2 ∷ 0 ∷ 1 ∷ 0 ∷ 1 ∷ 0 ∷ 1 ∷ 1 ∷ []) (replicate 16 0)
+four_boards = run Cube 4 (state_of (fresh_table 4) 0 0) (2 ∷ 0 ∷ 1 ∷ 0 ∷ 1 ∷ 0 ∷ 1 ∷ 1 ∷ []) (replicate 16 0)
 
 -- one entry on a table, from a tally of zeros
 abbrev pub one_entry : ℕ → List ℕ → ℕ → ℕ → RunResult
-one_entry n t kind i = run wiring_cube n (state_of t 0 0) (kind ∷ i ∷ []) (replicate 4 0)
+one_entry n t kind i = run Cube n (state_of t 0 0) (kind ∷ i ∷ []) (replicate 4 0)
 
 -- the table in which station i also suspects k
 abbrev pub also_suspects : ℕ → List ℕ → ℕ → ℕ → List ℕ
@@ -57,7 +57,7 @@ zero_suspects_one = also_suspects 4 (also_suspects 4 (fresh_table 4) 0 1) 1 2
 
 -- n = 3: station 0 suspects 1 and 2, and 2 has finished its pass
 unfoldable pub station_two_finished : List ℕ
-station_two_finished = finish_pass wiring_cube 3 (also_suspects 3 (also_suspects 3 (fresh_table 3) 0 1) 0 2) 2
+station_two_finished = finish_pass Cube 3 (also_suspects 3 (also_suspects 3 (fresh_table 3) 0 1) 0 2) 2
 
 unfoldable pub tested_told : RunResult
 tested_told = one_entry 4 zero_suspects_one 1 0
@@ -73,12 +73,12 @@ alone_of_three = one_entry 3 station_two_finished 1 0
 unfoldable pub after_closing : ℕ → List ℕ
 after_closing ago =
     let gone = set_cell 3 (set_cell 3 (set_cell 3 (fresh_table 3) 2 status_column 2) 2 told_by_column 254) 2 rounds_ago_column ago in
-    drop (line_start 3 2) (one_entry 3 (set_cell 3 (finish_pass wiring_cube 3 gone 1) 0 next_column 4) 1 0).state.table
+    drop (line_start 3 2) (one_entry 3 (set_cell 3 (finish_pass Cube 3 gone 1) 0 next_column 4) 1 0).state.table
 
 -- n = 3: the refusal of a table whose line 1 has this status, byte 5 and byte 4
 unfoldable pub refusal_of : ℕ → ℕ → ℕ → ℕ
 refusal_of status ago told =
-    table_refusal 3 (set_cell 3 (set_cell 3 (set_cell 3 (fresh_table 3) 1 status_column status) 1 told_by_column told) 1 rounds_ago_column ago)
+    table_refusal Cube 3 (set_cell 3 (set_cell 3 (set_cell 3 (fresh_table 3) 1 status_column status) 1 told_by_column told) 1 rounds_ago_column ago)
 
 unfoldable pub base_rules : List Example
 base_rules =
@@ -155,7 +155,7 @@ later_rules =
     -- station 1 of the four boards above was told by 0
     ∷ expect (map (told_by 4 four_boards.state.table) (0 ∷ 1 ∷ 2 ∷ 3 ∷ [])) (255 ∷ 0 ∷ 255 ∷ 255 ∷ [])
     -- 1 has finished: the round closes when 0 crashes, and counts for 0, which ceased at this very entry
-    ∷ expect (one_entry 2 (finish_pass wiring_cube 2 (fresh_table 2) 1) 3 0).state.table
+    ∷ expect (one_entry 2 (finish_pass Cube 2 (fresh_table 2) 1) 3 0).state.table
     (1 ∷ 1 ∷ 0 ∷ 0 ∷ 255 ∷ 1 ∷ 0 ∷ 0
     ∷ 0 ∷ 1 ∷ 0 ∷ 0 ∷ 255 ∷ 0 ∷ 0 ∷ 0 ∷ [])
     -- 2 was told, by whom was never recorded: 254 stays; byte 5 grows with each round that closes, to 255

@@ -94,7 +94,7 @@ fn size_line(rt: &impl Print, n: usize, len: usize) {
     let Some(table) = space.get_mut(..len) else {
         return;
     };
-    let number = refusal::number_of(fresh::fresh_table(Wiring::Cube as usize, n, table));
+    let number = refusal::number_of(fresh::fresh_table(n, table));
     let _ = println!(rt; "size {n} bytes {len} number {number}");
 }
 
@@ -172,7 +172,7 @@ fn eleven_boards(rt: &impl Print) {
 #[tactic(auto, unfolding(table::specs::Table::table_length, table::specs::Sizes::is_size))]
 fn eight_assigned(rt: &impl Print) {
     let mut table = [0u8; EIGHT];
-    let _ = fresh::fresh_table(Wiring::Cube as usize, 8, &mut table);
+    let _ = fresh::fresh_table(8, &mut table);
     let mut list = [0u8; 14];
     assignment_line(rt, 8, &table, 5, &mut list);
     let mut lent = TableMut {
@@ -258,7 +258,7 @@ fn ring_of_four(rt: &impl Print) {
 // The row of a station of the ring of four.
 fn row_line(rt: &impl Print, table: &[u8], i: u8) {
     let _ = print!(rt; "{i} row");
-    commas(rt, rows::row(Wiring::Ring as usize, 4, table, Station(i)));
+    commas(rt, rows::row(Wiring::Ring, 4, table, Station(i)));
     line_end(rt);
 }
 
@@ -285,7 +285,7 @@ struct Plant<'a> {
 impl<'a> Plant<'a> {
     // A plant that begins: the table is made fresh.
     fn fresh(wiring: Wiring, n: u8, table: &'a mut [u8]) -> Plant<'a> {
-        let _ = fresh::fresh_table(wiring as usize, n as usize, table);
+        let _ = fresh::fresh_table(n as usize, table);
         Plant {
             wiring,
             n,
@@ -358,7 +358,7 @@ impl<'a> Plant<'a> {
     // A run of a schedule.
     fn run(&mut self, schedule: &[u8], sheet: &mut [u8]) -> Ran {
         let ran = run::run(
-            self.wiring as usize,
+            self.wiring,
             self.n as usize,
             self.table,
             self.tally,

@@ -26,8 +26,8 @@ pub fn show(rt: &impl Print) {
 fn eight_boards(rt: &impl Print) {
     let mut by_turns = [0u8; EIGHT];
     let mut driven = [0u8; EIGHT];
-    let _ = fresh::fresh_table(Wiring::Cube as usize, 8, &mut by_turns);
-    let _ = fresh::fresh_table(Wiring::Cube as usize, 8, &mut driven);
+    let _ = fresh::fresh_table(8, &mut by_turns);
+    let _ = fresh::fresh_table(8, &mut driven);
     both_ways(rt, &mut by_turns, &mut driven);
 }
 
@@ -35,8 +35,8 @@ fn eight_boards(rt: &impl Print) {
 fn four_crashed(rt: &impl Print) {
     let mut by_turns = [0u8; EIGHT];
     let mut driven = [0u8; EIGHT];
-    let _ = fresh::fresh_table(Wiring::Cube as usize, 8, &mut by_turns);
-    let _ = fresh::fresh_table(Wiring::Cube as usize, 8, &mut driven);
+    let _ = fresh::fresh_table(8, &mut by_turns);
+    let _ = fresh::fresh_table(8, &mut driven);
     entry_of(rt, &mut by_turns, Tally::default(), Kind::Crash, 4);
     entry_of(rt, &mut driven, Tally::default(), Kind::Crash, 4);
     both_ways(rt, &mut by_turns, &mut driven);
@@ -48,7 +48,7 @@ fn both_ways(rt: &impl Print, by_turns: &mut [u8], driven: &mut [u8]) {
     tally_line(rt, granted_round(rt, by_turns));
     drive_line(
         rt,
-        drive::drive(Wiring::Cube as usize, 8, driven, Tally::default(), NO_GRANT),
+        drive::drive(Wiring::Cube, 8, driven, Tally::default(), NO_GRANT),
     );
     tables_line(rt, by_turns, driven);
 }
@@ -72,7 +72,7 @@ fn granted_round(rt: &impl Print, table: &mut [u8]) -> Tally {
         if tally.rounds != 0 {
             return tally;
         }
-        let Ok(to) = grant::grant(Wiring::Cube as usize, 8, table, last) else {
+        let Ok(to) = grant::grant(Wiring::Cube, 8, table, last) else {
             return tally;
         };
         last = to.0 as usize;
@@ -84,11 +84,11 @@ fn granted_round(rt: &impl Print, table: &mut [u8]) -> Tally {
 // Eight boards: board 5 takes a turn, and the rest of the round is driven.
 fn rest_of_a_round(rt: &impl Print) {
     let mut table = [0u8; EIGHT];
-    let _ = fresh::fresh_table(Wiring::Cube as usize, 8, &mut table);
+    let _ = fresh::fresh_table(8, &mut table);
     let tally = entry_of(rt, &mut table, Tally::default(), Kind::Turn, 5);
     drive_line(
         rt,
-        drive::drive(Wiring::Cube as usize, 8, &mut table, tally, NO_GRANT),
+        drive::drive(Wiring::Cube, 8, &mut table, tally, NO_GRANT),
     );
 }
 
@@ -97,7 +97,7 @@ fn entry_of(rt: &impl Print, table: &mut [u8], tally: Tally, kind: Kind, i: u8) 
     let station = Station(i);
     let mut line = [0u8; 4];
     let ran = run::run(
-        Wiring::Cube as usize,
+        Wiring::Cube,
         8,
         table,
         tally,
@@ -121,11 +121,11 @@ fn top_tally(rt: &impl Print) {
 // A drive of two fresh boards, behind so many rounds and tests.
 fn two_boards(rt: &impl Print, rounds: u32, tests: u32) {
     let mut table = [0u8; TWO];
-    let _ = fresh::fresh_table(Wiring::Cube as usize, 2, &mut table);
+    let _ = fresh::fresh_table(2, &mut table);
     let tally = Tally { rounds, tests };
     drive_line(
         rt,
-        drive::drive(Wiring::Cube as usize, 2, &mut table, tally, NO_GRANT),
+        drive::drive(Wiring::Cube, 2, &mut table, tally, NO_GRANT),
     );
 }
 
@@ -133,24 +133,18 @@ fn two_boards(rt: &impl Print, rounds: u32, tests: u32) {
 #[tactic(auto, unfolding(table::specs::Table::table_length, table::specs::Sizes::is_size))]
 fn nobody_left(rt: &impl Print) {
     let mut table = [0u8; TWO];
-    let _ = fresh::fresh_table(Wiring::Cube as usize, 2, &mut table);
+    let _ = fresh::fresh_table(2, &mut table);
     let mut lent = TableMut {
         n: 2,
         bytes: &mut table,
     };
     lent.put(Station(0), cells::HEAD + 1, 1);
     lent.put(Station(1), cells::HEAD, 1);
-    let first = drive::drive(
-        Wiring::Cube as usize,
-        2,
-        &mut table,
-        Tally::default(),
-        NO_GRANT,
-    );
+    let first = drive::drive(Wiring::Cube, 2, &mut table, Tally::default(), NO_GRANT);
     drive_line(rt, first);
     drive_line(
         rt,
-        drive::drive(Wiring::Cube as usize, 2, &mut table, first.tally, 1),
+        drive::drive(Wiring::Cube, 2, &mut table, first.tally, 1),
     );
 }
 
@@ -166,9 +160,9 @@ fn last_numbers(rt: &impl Print) {
 
 fn number_line(rt: &impl Print, last: usize) {
     let mut table = [0u8; TWO];
-    let _ = fresh::fresh_table(Wiring::Cube as usize, 2, &mut table);
+    let _ = fresh::fresh_table(2, &mut table);
     let (number, Station(station)) = refusal::parts(
-        grant::grant(Wiring::Cube as usize, 2, &table, last),
+        grant::grant(Wiring::Cube, 2, &table, last),
         Station(0),
     );
     let _ = println!(rt; "last {last} number {number} station {station}");

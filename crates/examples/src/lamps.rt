@@ -12,7 +12,7 @@ use table::{Station, fresh};
 // What one print cannot write is left out, and the next is tried all the same.
 pub fn show(rt: &impl Print) {
     let mut table = [0u8; FOUR];
-    let _ = fresh::fresh_table(Wiring::Cube as usize, 4, &mut table);
+    let _ = fresh::fresh_table(4, &mut table);
     lamp_line(rt, 4, &table);
     // The reply of 1 comes late: 0 suspects it. Then 0 exchanges rows with 2, and with 3.
     entry_of(&mut table, Kind::LateTurn, 0);
@@ -38,7 +38,7 @@ fn entry_of(table: &mut [u8], kind: Kind, i: u8) {
     let station = Station(i);
     let mut line = [0u8; 4];
     let _ = run::run(
-        Wiring::Cube as usize,
+        Wiring::Cube,
         4,
         table,
         Tally::default(),
@@ -48,7 +48,7 @@ fn entry_of(table: &mut [u8], kind: Kind, i: u8) {
 }
 
 fn lamp_line(rt: &impl Print, n: usize, table: &[u8]) {
-    let _ = match lamp::doubt_lamp(Wiring::Cube as usize, n, table) {
+    let _ = match lamp::doubt_lamp(Wiring::Cube, n, table) {
         Ok(Some(Doubt { by, of })) => println!(rt; "lamp {} {}", by.0, of.0),
         Ok(None) => println!(rt; "lamp out"),
         Err(refusal) => println!(rt; "lamp refused {}", refusal.number()),

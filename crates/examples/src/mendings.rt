@@ -20,7 +20,7 @@ pub fn show(rt: &impl Print) {
 }
 
 fn mend_lines(rt: &impl Print, n: usize, table: &mut [u8], report: &mut [u8]) {
-    let count = match mender::mend(Wiring::Cube as usize, n, table, report) {
+    let count = match mender::mend(Wiring::Cube, n, table, report) {
         Ok(count) => count,
         Err(refusal) => {
             let _ = println!(rt; "mending refused {}", refusal.number());

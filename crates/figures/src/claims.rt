@@ -6,7 +6,7 @@ ghost use Rattle.figures.specs.Claims.{MeanLowest, VarianceLowest, LeastExtreme,
 
 // Figures of a list (specs/Claims.antt).
 #[tactic(auto, using(crate::proofs::FiguresLaws::kept_figures, crate::proofs::Deviations::not_negative))]
-pub fn results()
+pub fn figures_of_results()
     // The mean of at least one result is in lowest terms, and stands for the sum by the count.
     ensures mean_lowest { MeanLowest }
     // The variance of at least one result is in lowest terms, and stands for the mean of the squared deviations from the mean.

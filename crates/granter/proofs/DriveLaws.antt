@@ -10,7 +10,7 @@ use native.Mathlib.Numerals.{add-one}
 use native.Mathlib.Omega.{arith}
 use borrow.Author.Tests.{eqb-true, eqb-false, eq-eqb, ne_eqb, not-false}
 use lib.Dec.{eqb}
-use Rattle.table.specs.Rules.{some_live, round_over, numbered_table_refusal}
+use Rattle.table.specs.Rules.{some_live, round_over, table_refusal}
 use Rattle.lists.proofs.BoolLaws.{by_bool, neither}
 use Rattle.lists.proofs.SearchLaws.{least-is, least-none}
 use Rattle.table.proofs.Accepting.{Accepted}
@@ -26,6 +26,7 @@ use Rattle.std.specs.Prelude.{Err}
 use Rattle.lists.specs.declared.refusal.Refusal.{Refusal}
 use Rattle.lists.specs.Refusal.{number_of}
 use Rattle.lists.proofs.RefusalLaws.{number_nonzero}
+use Rattle.table.specs.declared.wiring.Wiring.{Wiring}
 use Rattle.granter.specs.Drive.{Stand, stand_at, granted_at, grant_turn, after_grants, ended, ended_after, full_after, stops, grants_made}
 use Rattle.granter.specs.Drive.{drive_outcome, outcome_after, drive, Stopped}
 use Rattle.granter.proofs.GrantLaws.{Grantable, granted-waits, waits-parts, turn-taken}
@@ -37,7 +38,7 @@ unfolding ended
 not-ended n rounds s e = let a = neither _ _ e in (eqb-true _ _ (not-false _ a.0), not-false _ a.1)
 
 -- a drive that does not stop has not ended, and no tally is full
-pub not_stopped : (w n : ℕ) (p : Stand) (k : ℕ) → stops w n p k ≡ false → (ended_after w n p k ≡ false) × (full_after w n p k ≡ false)
+pub not_stopped : (w : Wiring) (n : ℕ) (p : Stand) (k : ℕ) → stops w n p k ≡ false → (ended_after w n p k ≡ false) × (full_after w n p k ≡ false)
 unfolding stops
 not_stopped w n p k e = neither _ _ e
 
@@ -47,17 +48,17 @@ unfolding ended
 unended n s l = rw (eq-eqb s.rounds s.rounds refl, l)
 
 -- after k grants it has not ended, and did not stop before
-pub record Driving (w n : ℕ) (p : Stand) (k : ℕ) : Type 0 where
+pub record Driving (w : Wiring) (n : ℕ) (p : Stand) (k : ℕ) : Type 0 where
   pub ok : Accepted w n (after_grants w n p k).state.table
   pub open-still : ended_after w n p k ≡ false
   pub room : k + all_left w n (after_grants w n p k).state.table ≤ n * n
   pub before : (j : ℕ) → j < k → stops w n p j ≡ false
 
 -- a table that refusals 1 to 4 let through, line by line
-lines_of : (w n : ℕ) (t : List ℕ) → Accepted w n t → Lines w n t
+lines_of : (w : Wiring) (n : ℕ) (t : List ℕ) → Accepted w n t → Lines w n t
 lines_of w n t ok = (ok.long, accepted-line w n t ok)
 
-pub driving-start : (w n : ℕ) (s : State) (last : ℕ) → Grantable w n s.table last → Driving w n (stand_at s last) 0
+pub driving-start : (w : Wiring) (n : ℕ) (s : State) (last : ℕ) → Grantable w n s.table last → Driving w n (stand_at s last) 0
 unfolding after_grants
 driving-start w n s last g = record {
   ok = g.ok;
@@ -67,7 +68,7 @@ driving-start w n s last g = record {
 }
 
 -- a grant and its turn, of any kind but a crash
-module _ (w n : ℕ) (s : State) (last kind : ℕ) (ok : Accepted w n s.table) (someone : some_live n s.table ≡ true)
+module _ (w : Wiring) (n : ℕ) (s : State) (last kind : ℕ) (ok : Accepted w n s.table) (someone : some_live n s.table ≡ true)
     (no_crash : eqb kind kind_crash ≡ false) where
   abbrev station : ℕ
   station = granted n s.table last
@@ -89,7 +90,7 @@ module _ (w n : ℕ) (s : State) (last kind : ℕ) (ok : Accepted w n s.table) (
       by_bool (round_over n (acted w n s.table entry)) (λ over. omega (arith, rw over at same)) (λ over. rw over turn-fewer)
 
 -- the next grant
-module _ (w n : ℕ) (p : Stand) (k : ℕ) (d : Driving w n p k) where
+module _ (w : Wiring) (n : ℕ) (p : Stand) (k : ℕ) (d : Driving w n p k) where
   abbrev s : State
   s = (after_grants w n p k).state
 
@@ -130,23 +131,23 @@ module _ (w n : ℕ) (p : Stand) (k : ℕ) (d : Driving w n p k) where
         }
 
 -- where a drive stops: it stops there, and not before
-pub stopped-full : (w n : ℕ) (p : Stand) (k : ℕ) → Driving w n p k → full_after w n p k ≡ true → Stopped w n p k
+pub stopped-full : (w : Wiring) (n : ℕ) (p : Stand) (k : ℕ) → Driving w n p k → full_after w n p k ≡ true → Stopped w n p k
 unfolding stops
 stopped-full w n p k d full = record { within = omega (arith, d.room); stopped = rw (d.open-still, full); first = d.before }
 
-pub stopped-ended : (w n : ℕ) (p : Stand) (k : ℕ) → Driving w n p k → full_after w n p k ≡ false → ended_after w n p (suc k) ≡ true
+pub stopped-ended : (w : Wiring) (n : ℕ) (p : Stand) (k : ℕ) → Driving w n p k → full_after w n p k ≡ false → ended_after w n p (suc k) ≡ true
     → Stopped w n p (suc k)
 unfolding stops
 stopped-ended w n p k d fits o = record { within = next-within w n p k d; stopped = rw o; first = next-before w n p k d fits }
 
 -- a drive that is refused
-pub drive-refused : (w n : ℕ) (s : State) (last : ℕ) (r : Refusal) → grant_check w n s.table last ≡ Err r
+pub drive-refused : (w : Wiring) (n : ℕ) (s : State) (last : ℕ) (r : Refusal) → grant_check w n s.table last ≡ Err r
     → drive w n s last ≡ drive_outcome (number_of r) s last 0
 unfolding drive
 drive-refused w n s last r e = rw (e, ne_eqb (number_of r) 0 (number_nonzero r))
 
 -- the grants made are the first after which it stops
-pub made-is : (w n : ℕ) (p : Stand) (k : ℕ) → Stopped w n p k → grants_made w n p ≡ k
+pub made-is : (w : Wiring) (n : ℕ) (p : Stand) (k : ℕ) → Stopped w n p k → grants_made w n p ≡ k
 unfolding grants_made
 made-is w n p k s =
     by_cases (dec_lt k (n * n))
@@ -156,19 +157,19 @@ made-is w n p k s =
     least-none (stops w n p) (n * n) 0 (λ j a b. s.first j (omega arith)) ∙ omega arith)
 
 -- the whole drive
-pub drive-made : (w n : ℕ) (s : State) (last k : ℕ) → grant_refusal w n s.table last ≡ 0 → Stopped w n (stand_at s last) k
+pub drive-made : (w : Wiring) (n : ℕ) (s : State) (last k : ℕ) → grant_refusal w n s.table last ≡ 0 → Stopped w n (stand_at s last) k
     → outcome_after w n (stand_at s last) k ≡ drive w n s last
 unfolding drive
 drive-made w n s last k z stop = rw (z, made-is w n (stand_at s last) k stop)
 
 -- a grant and its turn, by the station and the state after it
-pub turned-is : (w n : ℕ) (q : Stand) (s : State) (i : ℕ) → i ≡ granted_at n q → s ≡ after w n q.state (entry_of kind_turn i)
+pub turned-is : (w : Wiring) (n : ℕ) (q : Stand) (s : State) (i : ℕ) → i ≡ granted_at n q → s ≡ after w n q.state (entry_of kind_turn i)
     → stand_at s i ≡ grant_turn w n q
 unfolding grant_turn
 turned-is w n q s i e f = rw (f, e)
 
 -- a drive as the code finds it: q is where it stands after k grants
-module _ (w n : ℕ) (p : Stand) (k : ℕ) (q : Stand) (at-k : q ≡ after_grants w n p k) (d : Driving w n p k) where
+module _ (w : Wiring) (n : ℕ) (p : Stand) (k : ℕ) (q : Stand) (at-k : q ≡ after_grants w n p k) (d : Driving w n p k) where
   -- a tally is full: it stops here
   pub full-stop : tally_full q.state.rounds q.state.tests ≡ true → (drive_outcome 7 q.state q.last k ≡ outcome_after w n p k) × Stopped w n p k
   unfolding outcome_after
@@ -183,7 +184,7 @@ module _ (w n : ℕ) (p : Stand) (k : ℕ) (q : Stand) (at-k : q ≡ after_grant
   granted-below = rw at-k (chosen w n p k d).0
 
   module _ (fits : tally_full q.state.rounds q.state.tests ≡ false) where
-    pub turn-ready : (numbered_table_refusal w n q.state.table ≡ 0) × (entry_refusal n q.state (entry_of kind_turn (granted_at n q)) ≡ 0)
+    pub turn-ready : (table_refusal w n q.state.table ≡ 0) × (entry_refusal n q.state (entry_of kind_turn (granted_at n q)) ≡ 0)
     turn-ready = rw at-k (accepted-number w n _ d.ok, next-taken w n p k d (rw at-k at fits))
 
     -- the next grant

@@ -11,13 +11,14 @@ use native.Mathlib.Numerals.{add-one}
 use native.Mathlib.Omega.{arith}
 use borrow.Author.Tests.{ltb-true, ltb-false, lt-ltb, le-ltb, eqb-true, ne_eqb}
 use lib.Dec.{ltb, eqb}
-use Rattle.table.specs.Rules.{not_live, some_live, numbered_table_refusal}
+use Rattle.table.specs.Rules.{not_live, some_live, table_refusal}
 use Rattle.lists.specs.Refusal.{unless}
 use Rattle.lists.proofs.BoolLaws.{by_bool}
 use Rattle.lists.proofs.SearchLaws.{every-not, least-between, least-before}
 use Rattle.table.proofs.SizeLaws.{size-bounds}
 use Rattle.table.proofs.Accepting.{Accepted, accepted}
 use Rattle.lists.proofs.RefusalLaws.{check_zero}
+use Rattle.table.specs.declared.wiring.Wiring.{Wiring}
 use Rattle.granter.specs.Grant.{no_grant, waits, first_from, following, granted, last_refusal, grant_refusal, grant_answer}
 use Rattle.granter.proofs.GrantLaws.{waits-parts, grantable, grant-zero, station-fits, last-below, granted-waits}
 use Rattle.granter.specs.Fairness.{stations_before, NextGoingRound, last_before, Grants, BoundedWaiting}
@@ -100,7 +101,7 @@ unfolding following
 following-granted n g top h = rw (ne_eqb g no_grant (omega arith), add-one g)
 
 -- one grant, from a table that refusals 1 to 4 let through and in which i waits
-module _ (w n : ℕ) (t : List ℕ) (last i : ℕ) (z : numbered_table_refusal w n t ≡ 0) (fits : last_refusal n last ≡ 0) (h : i < n)
+module _ (w : Wiring) (n : ℕ) (t : List ℕ) (last i : ℕ) (z : table_refusal w n t ≡ 0) (fits : last_refusal n last ≡ 0) (h : i < n)
     (waiting : waits n t i ≡ true) where
   ok : Accepted w n t
   ok = accepted w n t z
@@ -146,7 +147,7 @@ module _ (w n : ℕ) (t : List ℕ) (last i : ℕ) (z : numbered_table_refusal w
   nearer apart = rw (following-granted n (granted n t last) (size-bounds n ok.size).1 found) (closer apart)
 
 -- the last numbers between are let through
-module _ (w n : ℕ) (tables : ℕ → List ℕ) (last : ℕ) (fits : last_refusal n last ≡ 0) where
+module _ (w : Wiring) (n : ℕ) (tables : ℕ → List ℕ) (last : ℕ) (fits : last_refusal n last ≡ 0) where
   last_fits : (k : ℕ) → last_refusal n (last_before w n tables last k) ≡ 0
   unfolding last_before
   last_fits zero = fits
@@ -162,8 +163,8 @@ module _ (w n : ℕ) (tables : ℕ → List ℕ) (last : ℕ) (fits : last_refus
           (λ e. rw e f)
 
 -- the station waits in n tables one behind the other, from table a on
-module _ (w n : ℕ) (tables : ℕ → List ℕ) (last a i : ℕ) (fits : last_refusal n last ≡ 0) (h : i < n)
-    (waiting : (k : ℕ) → a ≤ k → k < a + n → (numbered_table_refusal w n (tables k) ≡ 0) × (waits n (tables k) i ≡ true)) where
+module _ (w : Wiring) (n : ℕ) (tables : ℕ → List ℕ) (last a i : ℕ) (fits : last_refusal n last ≡ 0) (h : i < n)
+    (waiting : (k : ℕ) → a ≤ k → k < a + n → (table_refusal w n (tables k) ≡ 0) × (waits n (tables k) i ≡ true)) where
   abbrev from : ℕ → ℕ
   from k = last_before w n tables last k
 
@@ -184,7 +185,7 @@ module _ (w n : ℕ) (tables : ℕ → List ℕ) (last a i : ℕ) (fits : last_r
       k : ℕ
       k = a + j
 
-      z : numbered_table_refusal w n (tables k) ≡ 0
+      z : table_refusal w n (tables k) ≡ 0
       z = (waiting k (omega arith) (omega arith)).0
 
       f : last_refusal n (from k) ≡ 0

@@ -10,12 +10,13 @@ use lib.Dec.{ltb, leb, eqb}
 use Rattle.lists.specs.Search.{least, every}
 use Rattle.lists.specs.Refusal.{Check, ◌and◌, number_of_result}
 use Rattle.table.specs.Table.{finished, live}
-use Rattle.table.specs.Rules.{some_live, finished_if_live, live_finished, round_over, numbered_table_refusal}
+use Rattle.table.specs.Rules.{some_live, finished_if_live, live_finished, round_over, table_refusal}
 use Rattle.lists.proofs.BoolLaws.{by_bool}
 use Rattle.lists.proofs.SearchLaws.{both, every-all, least-between, least-passes, least-before}
 use Rattle.table.proofs.Accepting.{Accepted, table_ok}
 use Rattle.std.specs.Prelude.{Ok, Err}
 use Rattle.lists.proofs.RefusalLaws.{check_zero, ensure_ok, and_ok}
+use Rattle.table.specs.declared.wiring.Wiring.{Wiring}
 use Rattle.plant.specs.Turn.{kind_turn}
 use Rattle.plant.specs.Entry.{State, entry_of, tally_full, entry_check, entry_refusal}
 use Rattle.granter.specs.Grant.{no_grant, waits, first_from, following, granted, last_refusal, grant_check, grant_refusal, grant_answer}
@@ -37,12 +38,12 @@ waits-parts n t i w =
     (b.0, not-true (eqb (finished n t i) 1) b.1)
 
 -- what a grant has that is not refused
-pub record Grantable (w n : ℕ) (t : List ℕ) (last : ℕ) : Type 0 where
+pub record Grantable (w : Wiring) (n : ℕ) (t : List ℕ) (last : ℕ) : Type 0 where
   pub ok : Accepted w n t
   pub last_fits : last_refusal n last ≡ 0
   pub someone : some_live n t ≡ true
 
-pub grant_ok : (w n : ℕ) (t : List ℕ) (last : ℕ) (x : Unit {0}) → grant_check w n t last ≡ Ok x → Grantable w n t last
+pub grant_ok : (w : Wiring) (n : ℕ) (t : List ℕ) (last : ℕ) (x : Unit {0}) → grant_check w n t last ≡ Ok x → Grantable w n t last
 unfolding grant_check
 grant_ok w n t last x e =
     let a = and_ok _ _ x e in
@@ -50,10 +51,10 @@ grant_ok w n t last x e =
     record { ok = table_ok w n t _ a.0; last_fits = ap number_of_result b.0; someone = ensure_ok _ _ _ b.1 }
 
 -- its round is not over
-pub grantable_open : (w n : ℕ) (t : List ℕ) (last : ℕ) → Grantable w n t last → round_over n t ≡ false
+pub grantable_open : (w : Wiring) (n : ℕ) (t : List ℕ) (last : ℕ) → Grantable w n t last → round_over n t ≡ false
 grantable_open w n t last g = g.ok.unclosed
 
-pub grant_answer_refusal : (w n : ℕ) (t : List ℕ) (last : ℕ) → number_of_result (grant_answer w n t last) ≡ grant_refusal w n t last
+pub grant_answer_refusal : (w : Wiring) (n : ℕ) (t : List ℕ) (last : ℕ) → number_of_result (grant_answer w n t last) ≡ grant_refusal w n t last
 unfolding grant_answer
 grant_answer_refusal w n t last = pick (grant_check w n t last)
   where
@@ -61,10 +62,10 @@ grant_answer_refusal w n t last = pick (grant_check w n t last)
     pick (Ok x) = refl
     pick (Err r) = refl
 
-pub grantable : (w n : ℕ) (t : List ℕ) (last : ℕ) → grant_refusal w n t last ≡ 0 → Grantable w n t last
+pub grantable : (w : Wiring) (n : ℕ) (t : List ℕ) (last : ℕ) → grant_refusal w n t last ≡ 0 → Grantable w n t last
 grantable w n t last z = grant_ok w n t last _ (check_zero _ z)
 
-pub grant-zero : (w n : ℕ) (t : List ℕ) (last : ℕ) → numbered_table_refusal w n t ≡ 0 → last_refusal n last ≡ 0 → some_live n t ≡ true
+pub grant-zero : (w : Wiring) (n : ℕ) (t : List ℕ) (last : ℕ) → table_refusal w n t ≡ 0 → last_refusal n last ≡ 0 → some_live n t ≡ true
     → grant_refusal w n t last ≡ 0
 unfolding grant_check
 grant-zero w n t last z fits someone = rw (check_zero _ z, check_zero _ fits, someone)

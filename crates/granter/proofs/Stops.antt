@@ -10,6 +10,7 @@ use lib.Dec.{eqb}
 use Rattle.lists.proofs.BoolLaws.{by_bool}
 use Rattle.table.specs.Rules.{some_live}
 use Rattle.table.proofs.Accepting.{Accepted}
+use Rattle.table.specs.declared.wiring.Wiring.{Wiring}
 use Rattle.plant.specs.Turn.{kind_turn, kind_late, kind_crash}
 use Rattle.plant.specs.Entry.{State}
 use Rattle.plant.proofs.RulesKept.{accepted-kept}
@@ -21,7 +22,7 @@ use Rattle.granter.proofs.DriveLaws.{stopped-full, stopped-ended, made-is}
 use Rattle.granter.specs.Within.{TurnKinds, after_turns, over_after, NoneRefused, RoundEndsInSquare, KindOneIsDriven, DriveStops}
 
 -- from k grants on, with so many grants left to n·n
-search-on : (w n : ℕ) (p : Stand) (left k : ℕ) → k + left ≡ n * n → Driving w n p k → (g : ℕ) × Stopped w n p g
+search-on : (w : Wiring) (n : ℕ) (p : Stand) (left k : ℕ) → k + left ≡ n * n → Driving w n p k → (g : ℕ) × Stopped w n p g
 search-on w n p zero k e d = absurd (omega (arith, next-within w n p k d))
 search-on w n p (suc left) k e d =
     by_bool (full_after w n p k) (λ full. (k, stopped-full w n p k d full))
@@ -30,7 +31,7 @@ search-on w n p (suc left) k e d =
     (λ o. search-on w n p left (suc k) (omega arith) (next-driving w n p k d fits o)))
 
 -- grants, each with its turn of any kind: the table after k of them, of which none ended the round
-record Turning (w n : ℕ) (kinds : ℕ → ℕ) (p : Stand) (k : ℕ) : Type 0 where
+record Turning (w : Wiring) (n : ℕ) (kinds : ℕ → ℕ) (p : Stand) (k : ℕ) : Type 0 where
   pub ok : Accepted w n (after_turns w n kinds p k).state.table
   pub going : (j : ℕ) → j ≤ k → over_after w n kinds p j ≡ false
   pub room : k + all_left w n (after_turns w n kinds p k).state.table ≤ n * n
@@ -40,7 +41,7 @@ no-crash : (kind : ℕ) → (kind ≡ kind_turn) ⊎ (kind ≡ kind_late) → eq
 no-crash kind (inl e) = rw e
 no-crash kind (inr e) = rw e
 
-module _ (w n : ℕ) (kinds : ℕ → ℕ) (p : Stand) (turns : TurnKinds kinds) (taken : NoneRefused w n kinds p) where
+module _ (w : Wiring) (n : ℕ) (kinds : ℕ → ℕ) (p : Stand) (turns : TurnKinds kinds) (taken : NoneRefused w n kinds p) where
   -- the next grant, with its turn
   module _ (k : ℕ) (d : Turning w n kinds p k) where
     abbrev s : State

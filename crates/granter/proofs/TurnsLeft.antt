@@ -16,6 +16,7 @@ use Rattle.table.specs.Wiring.{end_distance}
 use Rattle.table.specs.Table.{next_column, finished_column, next_distance, finished}
 use Rattle.lists.proofs.BoolLaws.{by_bool, choice}
 use Rattle.lists.proofs.SumLaws.{sum_below-suc, sum_by}
+use Rattle.table.specs.declared.wiring.Wiring.{Wiring}
 use Rattle.station.proofs.Presence.{standing, standing-all, standing-more, standing-grows, standing-own}
 use Rattle.plant.specs.Turn.{next_test, makes_test, outcome_at, turn}
 use Rattle.station.specs.Wired.{next_after}
@@ -25,11 +26,11 @@ use Rattle.plant.proofs.StepLines.{Lines}
 use Rattle.plant.proofs.TurnHeads.{Heads, turn-heads}
 
 -- a test at each present distance from the next one on, and the turn that finishes: the station itself stands at distance 0
-unfoldable pub turns_left : ℕ → ℕ → List ℕ → ℕ → ℕ
+unfoldable pub turns_left : Wiring → ℕ → List ℕ → ℕ → ℕ
 turns_left w n t i = cond (eqb (finished n t i) 1) 0 (suc n - standing w n i (next_distance n t i))
 
 -- those of all stations
-unfoldable pub all_left : ℕ → ℕ → List ℕ → ℕ
+unfoldable pub all_left : Wiring → ℕ → List ℕ → ℕ
 all_left w n t = sum_below (turns_left w n t) n
 
 -- a sum of terms none of which is above c
@@ -54,7 +55,7 @@ sum_less f g (suc n) p h same less =
     let e : p ≡ n = omega arith in
     omega (arith, sum_below-suc f n, sum_below-suc g n, sum_by {f = g} {g = f} n (λ i b. same i (omega arith) (omega arith)), rw e at less))
 
-module _ (w n : ℕ) (t : List ℕ) (size : is_size n ≡ true) (lines : Lines w n t) where
+module _ (w : Wiring) (n : ℕ) (t : List ℕ) (size : is_size n ≡ true) (lines : Lines w n t) where
   -- from 1 to n stations stand below the next distance
   stand-some : (i : ℕ) → i < n → 1 ≤ standing w n i (next_distance n t i)
   stand-some i h =

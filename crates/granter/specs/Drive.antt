@@ -1,9 +1,10 @@
--- The drive, which repeats a grant and its turn, for all inputs. w is the wiring's number.
+-- The drive, which repeats a grant and its turn, for all inputs. w is the wiring.
 -- Assumes nothing.
 use Rattle.std.specs.Prelude.{◌≡◌, ℕ, zero, suc, ◌*◌, ◌≤◌, ◌<◌, Bool, true, false, not, ◌||◌, List, if◌then◌else◌, ◌==◌}
 use Rattle.lists.specs.Search.{least}
 use Rattle.table.specs.Rules.{some_live}
 use Rattle.lists.specs.Refusal.{unless}
+use Rattle.table.specs.declared.wiring.Wiring.{Wiring}
 use Rattle.plant.specs.Turn.{kind_turn}
 use Rattle.plant.specs.Entry.{State, state_with, entry_of, tally_full, after}
 use Rattle.plant.specs.Run.{stop_refusal}
@@ -24,11 +25,11 @@ abbrev pub granted_at : ℕ → Stand → ℕ
 granted_at n p = granted n p.state.table p.last
 
 -- Rule Drive: a grant, and that station's turn of kind 1. The granted station becomes the last one
-unfoldable pub grant_turn : ℕ → ℕ → Stand → Stand
+unfoldable pub grant_turn : Wiring → ℕ → Stand → Stand
 grant_turn w n p = stand_at (after w n p.state (entry_of kind_turn (granted_at n p))) (granted_at n p)
 
 -- where a drive stands after k grants, each with its turn
-unfoldable pub after_grants : ℕ → ℕ → Stand → ℕ → Stand
+unfoldable pub after_grants : Wiring → ℕ → Stand → ℕ → Stand
 after_grants w n p zero = p
 after_grants w n p (suc k) = grant_turn w n (after_grants w n p k)
 
@@ -37,19 +38,19 @@ unfoldable pub ended : ℕ → ℕ → State → Bool
 ended n rounds s = not (s.rounds == rounds) || not (some_live n s.table)
 
 -- whether it has, after k grants
-abbrev pub ended_after : ℕ → ℕ → Stand → ℕ → Bool
+abbrev pub ended_after : Wiring → ℕ → Stand → ℕ → Bool
 ended_after w n p k = ended n p.state.rounds (after_grants w n p k).state
 
 -- whether a counter is full after k grants
-abbrev pub full_after : ℕ → ℕ → Stand → ℕ → Bool
+abbrev pub full_after : Wiring → ℕ → Stand → ℕ → Bool
 full_after w n p k = tally_full (after_grants w n p k).state.rounds (after_grants w n p k).state.tests
 
 -- Rule Drive stops: whether a drive stops after k grants, because it has ended or because a counter is full
-unfoldable pub stops : ℕ → ℕ → Stand → ℕ → Bool
+unfoldable pub stops : Wiring → ℕ → Stand → ℕ → Bool
 stops w n p k = ended_after w n p k || full_after w n p k
 
 -- Rule Grants made: the least number of grants after which it stops. That it stops within n·n is part of `Stopped`
-unfoldable pub grants_made : ℕ → ℕ → Stand → ℕ
+unfoldable pub grants_made : Wiring → ℕ → Stand → ℕ
 grants_made w n p = least (stops w n p) (n * n) 0
 
 -- what a drive answers and leaves: the number, table and tally, the last granted number and the grants made
@@ -68,22 +69,22 @@ abbrev pub drive_outcome_with : Driven → List ℕ → DriveResult
 drive_outcome_with d t = drive_outcome (stop_refusal d.stopped) (state_with t d.tally) d.last d.grants
 
 -- the outcome after k grants: 0 if the drive has ended, otherwise 7. The turns that were made stay
-unfoldable pub outcome_after : ℕ → ℕ → Stand → ℕ → DriveResult
+unfoldable pub outcome_after : Wiring → ℕ → Stand → ℕ → DriveResult
 outcome_after w n p k = drive_outcome (if ended_after w n p k then 0 else 7) (after_grants w n p k).state (after_grants w n p k).last k
 
--- Rule Drive call: the drive, for all inputs. Refused by 24, 1 to 4, 16 or 17 it gives back the tally and last number handed in, and 0 grants
-unfoldable pub drive : ℕ → ℕ → State → ℕ → DriveResult
+-- Rule Drive call: the drive, for all inputs. Refused by 1 to 4, 16 or 17 it gives back the tally and last number handed in, and 0 grants
+unfoldable pub drive : Wiring → ℕ → State → ℕ → DriveResult
 drive w n s last =
     unless (grant_refusal w n s.table last) (drive_outcome (grant_refusal w n s.table last) s last 0)
     (outcome_after w n (stand_at s last) (grants_made w n (stand_at s last)))
 
 -- a drive that is not refused at its start makes n·n grants at the most, stopped for one of the three reasons, and none of them held
 -- after fewer grants
-pub record Stopped (w n : ℕ) (p : Stand) (grants : ℕ) : Type 0 where
+pub record Stopped (w : Wiring) (n : ℕ) (p : Stand) (grants : ℕ) : Type 0 where
   pub within : grants ≤ n * n
   pub stopped : stops w n p grants ≡ true
   pub first : (k : ℕ) → k < grants → stops w n p k ≡ false
 
 -- of any drive: if it is not refused at its start, it stopped so
-abbrev pub StoppedIfTaken : ℕ → ℕ → State → ℕ → ℕ → Type 0
+abbrev pub StoppedIfTaken : Wiring → ℕ → State → ℕ → ℕ → Type 0
 StoppedIfTaken w n s last grants = grant_refusal w n s.table last ≡ 0 → Stopped w n (stand_at s last) grants

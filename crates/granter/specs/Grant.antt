@@ -4,11 +4,12 @@ use Rattle.std.specs.Prelude.{ℕ, ◌+◌, ◌-◌, Bool, not, ◌&&◌, List, 
 use Rattle.std.specs.Result.{result_unwrap_or}
 use Rattle.lists.specs.Search.{least}
 use Rattle.table.specs.Table.{finished, live}
-use Rattle.table.specs.Rules.{some_live, numbered_table_check}
+use Rattle.table.specs.Rules.{some_live, table_check}
 use Rattle.table.specs.declared.Station.{Station}
 use Rattle.lists.specs.declared.refusal.Refusal.{Refusal}
 use Rattle.lists.specs.declared.refusal.Refusal.TheVariants.{LastGranted, NoneLive}
 use Rattle.lists.specs.Refusal.{Check, ensure, ◌and◌, number_of_result}
+use Rattle.table.specs.declared.wiring.Wiring.{Wiring}
 
 -- Rule Last number: 255, where none was granted yet
 abbrev pub no_grant : ℕ
@@ -48,17 +49,17 @@ last_refusal n last = number_of_result (last_check n last)
 abbrev pub live_check : ℕ → List ℕ → Check
 live_check n t = ensure (some_live n t) NoneLive
 
--- refusals of the grant, and of a drive at its start, on the wiring with number w: 24, 1 to 4, 16, 17
-unfoldable pub grant_check : ℕ → ℕ → List ℕ → ℕ → Check
-grant_check w n t last = numbered_table_check w n t and last_check n last and live_check n t
+-- refusals of the grant, and of a drive at its start, on the wiring w: 1 to 4, 16, 17
+unfoldable pub grant_check : Wiring → ℕ → List ℕ → ℕ → Check
+grant_check w n t last = table_check w n t and last_check n last and live_check n t
 
-abbrev pub grant_refusal : ℕ → ℕ → List ℕ → ℕ → ℕ
+abbrev pub grant_refusal : Wiring → ℕ → List ℕ → ℕ → ℕ
 grant_refusal w n t last = number_of_result (grant_check w n t last)
 
 -- Rule Grant call: the station that the grant answers
-unfoldable pub grant_answer : ℕ → ℕ → List ℕ → ℕ → Result ℕ Refusal
+unfoldable pub grant_answer : Wiring → ℕ → List ℕ → ℕ → Result ℕ Refusal
 grant_answer w n t last = grant_check w n t last and Ok (granted n t last)
 
 -- that station, 0 where the grant is refused
-abbrev pub grant_station : ℕ → ℕ → List ℕ → ℕ → ℕ
+abbrev pub grant_station : Wiring → ℕ → List ℕ → ℕ → ℕ
 grant_station w n t last = result_unwrap_or (grant_answer w n t last) 0

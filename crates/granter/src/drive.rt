@@ -1,7 +1,6 @@
 // The drive: grant and turn on the lent table, again and again.
 ghost use Rattle.std.specs.Prelude.{◌≡◌, ◌<◌, IfSome};
 ghost use Rattle.table.specs.Lent.{IsSameLoan};
-ghost use Rattle.table.specs.Wiring.{wiring_number};
 ghost use Rattle.plant.specs.Entry.{state_with};
 ghost use Rattle.granter.specs.Grant.{last_number, grant_refusal};
 ghost use Rattle.granter.specs.Drive.{stand_at, ended, drive_outcome_with, outcome_after, drive, Stopped, StoppedIfTaken};
@@ -14,15 +13,15 @@ use table::lent::{Table, TableMut};
 use table::wiring::Wiring;
 
 // Grants and turns of kind 1 until a round closes, nobody is left live, or a tally is full. A drive refused at its start changes no byte.
-pub fn drive(wiring: usize, n: usize, table: &mut [u8], tally: Tally, last: usize) -> Driven
+pub fn drive(wiring: Wiring, n: usize, table: &mut [u8], tally: Tally, last: usize) -> Driven
     ensures outcome { drive_outcome_with result table.new
         ≡ drive wiring n (state_with table.old tally) last }
     ensures stopped_if_taken { let start = state_with table.old tally in
         StoppedIfTaken wiring n start last result.grants }
 {
     // By hand and not by `?`: the answer is no Result, since a drive that is stopped keeps the turns that it made.
-    let (wiring, n, before) = match grant::check_grant(wiring, n, table, last) {
-        Ok((wiring, lent, before)) => (wiring, lent.n, before),
+    let (n, before) = match grant::check_grant(wiring, n, table, last) {
+        Ok((lent, before)) => (lent.n, before),
         Err(refusal) => {
             return Driven {
                 tally,
@@ -38,14 +37,13 @@ pub fn drive(wiring: usize, n: usize, table: &mut [u8], tally: Tally, last: usiz
 
 // A drive that is not refused at its start: grant and turn until it stops.
 fn drive_on(wiring: Wiring, table: &mut TableMut, tally: Tally, last: Option<Station>) -> Driven
-    requires taken { let w = wiring_number wiring in
-        grant_refusal w table.old.n table.old.bytes.now (last_number last) ≡ 0 }
+    requires taken { grant_refusal wiring table.old.n table.old.bytes.now (last_number last) ≡ 0 }
     requires last_below { IfSome last (λ i. i.0 < table.old.n) }
     ensures same_loan { IsSameLoan table.old table.new }
     ensures outcome { let s = state_with table.old.bytes.now tally in
         drive_outcome_with result table.new.bytes.now
-        ≡ outcome_after (wiring_number wiring) table.old.n (stand_at s (last_number last)) result.grants }
-    ensures stopped { Stopped (wiring_number wiring) table.old.n
+        ≡ outcome_after wiring table.old.n (stand_at s (last_number last)) result.grants }
+    ensures stopped { Stopped wiring table.old.n
         (stand_at (state_with table.old.bytes.now tally) (last_number last)) result.grants }
 {
     let mut held = tally;

@@ -1,7 +1,6 @@
 // The grant: the next station, going round, that is live and unfinished.
 ghost use Rattle.std.specs.Prelude.{◌≡◌, ◌≤◌, ◌<◌, true, false, IfSome, IfNone, IfOk};
 ghost use Rattle.std.specs.Result.{result_map_both};
-ghost use Rattle.table.specs.Wiring.{wiring_number};
 ghost use Rattle.table.specs.Rules.{some_live, round_over};
 ghost use Rattle.granter.specs.Grant.{first_from, following, granted, last_number, last_check, grant_check, grant_answer};
 
@@ -15,34 +14,33 @@ pub const NO_GRANT: usize = 255;
 
 // The station that is granted after the last one.
 #[tactic(auto, using(crate::proofs::GrantLaws::grant_ok, crate::proofs::GrantLaws::grantable_open), unfolding(crate::specs::Grant::grant_answer))]
-pub fn grant(wiring: usize, n: usize, table: &[u8], last: usize) -> Result<Station, Refusal>
+pub fn grant(wiring: Wiring, n: usize, table: &[u8], last: usize) -> Result<Station, Refusal>
     ensures { result_map_both (λ x. x.0) (λ r. r) result ≡ grant_answer wiring n table.now last }
 {
-    let (_, lent, last) = check_grant(wiring, n, table, last)?;
+    let (lent, last) = check_grant(wiring, n, table, last)?;
     Ok(next_station(&lent, last))
 }
 
-// Refusals 24, 1 to 4, 16 and 17; answers the wiring, the checked table and the last granted station.
+// Refusals 1 to 4, 16 and 17; answers the checked table and the last granted station.
 #[tactic(auto, unfolding(crate::specs::Grant::grant_check))]
 pub(crate) fn check_grant(
-    wiring: usize,
+    wiring: Wiring,
     n: usize,
     table: &[u8],
     last: usize,
-) -> Result<(Wiring, Table<'_>, Option<Station>), Refusal>
+) -> Result<(Table<'_>, Option<Station>), Refusal>
     ensures check { result_map_both (λ s. tt) (λ r. r) result ≡ grant_check wiring n table.now last }
-    ensures same_wiring { IfOk result (λ s. wiring_number s.0 ≡ wiring) }
-    ensures same_size { IfOk result (λ s. s.1.n ≡ n) }
-    ensures same_bytes { IfOk result (λ s. s.1.bytes.now ≡ table.now) }
-    ensures same_last { IfOk result (λ s. last_number s.2 ≡ last) }
-    ensures last_below { IfOk result (λ s. IfSome s.2 (λ i. i.0 < n)) }
+    ensures same_size { IfOk result (λ s. s.0.n ≡ n) }
+    ensures same_bytes { IfOk result (λ s. s.0.bytes.now ≡ table.now) }
+    ensures same_last { IfOk result (λ s. last_number s.1 ≡ last) }
+    ensures last_below { IfOk result (λ s. IfSome s.1 (λ i. i.0 < n)) }
 {
-    let (wiring, lent) = Table::checked_by_number(wiring, n, table)?;
+    let lent = Table::checked(wiring, n, table)?;
     let last = last_granted(lent.n, last)?;
     if !some_live(&lent) {
         return Err(Refusal::NoneLive);
     }
-    Ok((wiring, lent, last))
+    Ok((lent, last))
 }
 
 // The last granted station, none at 255: refusal 16.

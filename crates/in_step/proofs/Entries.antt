@@ -10,6 +10,7 @@ use Rattle.std.specs.Prelude.{Some, slice_get}
 use Rattle.std.proofs.lemmas.Option.{same_Some, none-some}
 use Rattle.std.proofs.lemmas.List.{take-append-le}
 use Rattle.table.proofs.Accepting.{Accepted}
+use Rattle.table.specs.declared.wiring.Wiring.{Wiring}
 use Rattle.plant.specs.Entry.{Entry, State, entry_refusal, after}
 use Rattle.plant.proofs.RulesKept.{accepted-kept}
 use Rattle.in_step.specs.System.{after_all, table_at}
@@ -29,7 +30,7 @@ pub cons-all : {A : Type 0} (P : A → Type 0) (x : A) (xs : List A) → P x →
 cons-all P x xs p all zero a e = rw (sym (same_Some x a e)) p
 cons-all P x xs p all (suc k) a e = all k a e
 
-module _ (w n : ℕ) where
+module _ (w : Wiring) (n : ℕ) where
   pub after_all-snoc : (s : State) (es : List Entry) (e : Entry) → after_all w n s (es ++ (e ∷ [])) ≡ after w n (after_all w n s es) e
   unfolding after_all
   after_all-snoc s [] e = refl

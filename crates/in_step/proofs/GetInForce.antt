@@ -15,8 +15,9 @@ use Rattle.std.specs.Prelude.{Option, None, Some, Ok, slice_get}
 use Rattle.lists.proofs.BoolLaws.{by_bool}
 use Rattle.table.specs.Table.{finished, live, status_column, status_crashed}
 use Rattle.table.specs.Line.{line, row_of, is_live}
-use Rattle.table.specs.Rules.{numbered_table_refusal}
+use Rattle.table.specs.Rules.{table_refusal}
 use Rattle.table.proofs.Accepting.{Accepted, accepted}
+use Rattle.table.specs.declared.wiring.Wiring.{Wiring}
 use Rattle.plant.specs.Turn.{makes_test, turn_tested, turn_outcome}
 use Rattle.plant.specs.Entry.{Entry, State, entry_of, is_crash, is_test, entry_refusal, after, tested_of}
 use Rattle.plant.specs.Entry.{outcome_of as entry_outcome}
@@ -37,7 +38,7 @@ use Rattle.in_step.proofs.Kept.{Fits, Holds, first, all-kept, accepted-all}
 use Rattle.in_step.proofs.TurnHeard.{live-line, row-written, kind_by, none-comes, row-comes, none-number, row-number, pass-number, names}
 
 -- one list of happenings after another
-after-append : (w n : ℕ) (s : State) (y : System) (hs gs : List Happening)
+after-append : (w : Wiring) (n : ℕ) (s : State) (y : System) (hs gs : List Happening)
     → after_happenings w n s y (hs ++ gs) ≡ after_happenings w n s (after_happenings w n s y hs) gs
 unfolding after_happenings
 after-append w n s y [] gs = refl
@@ -48,7 +49,7 @@ get-last [] x = refl
 get-last (a ∷ xs) x = get-last xs x
 
 -- a board that has what it needs can put the entry in force
-module _ (w n k : ℕ) (b : Board) (note : Note) (heard : Option End) where
+module _ (w : Wiring) (n k : ℕ) (b : Board) (note : Note) (heard : Option End) where
   row-some : (x : End) → heard ≡ Some x → x.turn ≡ suc b.in_force → x.from ≡ note.entry.station → row_heard b note.entry.station heard ≡ Some x.packed
   unfolding row_heard
   row-some x h turn from = rw (h, eq-eqb x.turn (suc b.in_force) turn, eq-eqb x.from note.entry.station from) refl
@@ -78,7 +79,7 @@ one (suc (suc zero)) a b c d = absurd (c refl)
 one (suc (suc (suc zero))) a b c d = absurd (d refl)
 one (suc (suc (suc (suc k)))) a b c d = absurd (omega arith)
 
-module _ (w n : ℕ) (s : State) (a : Accepted w n s.table) where
+module _ (w : Wiring) (n : ℕ) (s : State) (a : Accepted w n s.table) where
   -- entry m is made, and no note of it has come to a board from k on
   record Noted (y : System) (m : ℕ) (e : Entry) (k : ℕ) : Type 0 where
     stands : slice_get y.entries m ≡ Some e
@@ -268,7 +269,7 @@ module _ (w n : ℕ) (s : State) (a : Accepted w n s.table) where
       abbrev j : ℕ
       j = turn_tested w n t own
 
-      z : numbered_table_refusal w n t ≡ 0
+      z : table_refusal w n t ≡ 0
       z = accepted-number w n t accepted-now
 
       going : finished n t own ≡ 1 → ⊥

@@ -15,7 +15,7 @@ use Rattle.std.proofs.lemmas.Option.{same_Some, none-some, slice_get_within}
 use Rattle.lists.proofs.BoolLaws.{by_bool}
 use Rattle.lists.proofs.SearchLaws.{both}
 use Rattle.table.specs.Table.{live}
-use Rattle.table.specs.Rules.{numbered_table_refusal}
+use Rattle.table.specs.Rules.{table_refusal}
 use Rattle.table.specs.Line.{line, row_of, is_live}
 use Rattle.table.proofs.Accepting.{Accepted, accepted}
 use Rattle.plant.specs.Turn.{turn}
@@ -24,6 +24,7 @@ use Rattle.board.specs.Packed.{pack}
 use Rattle.board.specs.Calls.{next_answer, closed_after}
 use Rattle.cable.specs.Boards.{row_from, named, tester_after, tester_answer}
 use Rattle.lists.specs.declared.refusal.Refusal.{Refusal}
+use Rattle.table.specs.declared.wiring.Wiring.{Wiring}
 use Rattle.plant.proofs.RulesKept.{entry-facts}
 use Rattle.in_step.specs.System.{Board, Reply, End, System, start, after_all, table_at, Note, note_of, row_heard, line_by}
 use Rattle.in_step.specs.Happenings.{with_board, reply_sent, turn_ended, turn_made, reply_heard, entry_made, entry_by, end_heard}
@@ -40,7 +41,7 @@ pub record ReplyOn (n : ℕ) (t : List ℕ) (r : Reply) : Type 0 where
   pub is_live : live n t r.from ≡ true
 
 -- of an end of turn e + 1 of board b: it comes of what b may have heard; and it is the line aside that b keeps
-pub record EndOn (w n : ℕ) (t : List ℕ) (b : Board) (x : End) (e : ℕ) : Type 0 where
+pub record EndOn (w : Wiring) (n : ℕ) (t : List ℕ) (b : Board) (x : End) (e : ℕ) : Type 0 where
   pub reached : e ≤ b.in_force
   pub reply : Option (List ℕ)
   pub heard : Heard w n t x.from reply
@@ -49,7 +50,7 @@ pub record EndOn (w n : ℕ) (t : List ℕ) (b : Board) (x : End) (e : ℕ) : Ty
   pub aside : b.in_force ≡ e → b.aside ≡ Some (tester_after w n x.from (line n t x.from) reply)
 
 -- of entry m, a turn of board b: until the entry is in force at b, it keeps aside its line of the table after it
-pub record OwnOn (w n : ℕ) (t : List ℕ) (b : Board) (m : ℕ) (e : Entry) : Type 0 where
+pub record OwnOn (w : Wiring) (n : ℕ) (t : List ℕ) (b : Board) (m : ℕ) (e : Entry) : Type 0 where
   pub reached : m ≤ b.in_force
   pub aside : b.in_force ≡ m → b.aside ≡ Some (line n (acted w n t e) e.station)
 
@@ -66,7 +67,7 @@ at-board : (P : ℕ → Board → Type 0) (f : ℕ → Board) (k : ℕ) (b : Boa
 at-board P f k b i new old =
     by_bool (eqb i k) (λ e. rw (e, eqb-true i k e) (new (eqb-true i k e))) (λ e. rw e old)
 
-module _ (w n : ℕ) (s : State) (a : Accepted w n s.table) where
+module _ (w : Wiring) (n : ℕ) (s : State) (a : Accepted w n s.table) where
   abbrev pub T : List Entry → ℕ → List ℕ
   T es m = table_at w n s es m
 
@@ -413,7 +414,7 @@ module _ (w n : ℕ) (s : State) (a : Accepted w n s.table) where
   all-kept y h [] = h
   all-kept y h (x ∷ hs) = all-kept (after_happening w n s y x) (happening-kept y h x) hs
 
-  in-step : (z : numbered_table_refusal w n s.table ≡ 0) (y : System) → Holds y → InStep w n s y
+  in-step : (z : table_refusal w n s.table ≡ 0) (y : System) → Holds y → InStep w n s y
   unfolding Fits GoodEnd
   in-step z y h = record {
     made = λ k hk. (h.boards k hk).0;
@@ -435,7 +436,7 @@ pub boards-in-step : BoardsInStep
 boards-in-step w n s hs z =
     let a = accepted w n s.table z in in-step w n s a z (after_happenings w n s (start n s) hs) (all-kept w n s a (start n s) (first w n s a) hs)
 
-pub all-taken : (w n : ℕ) (s : State) (hs : List Happening) → numbered_table_refusal w n s.table ≡ 0
+pub all-taken : (w : Wiring) (n : ℕ) (s : State) (hs : List Happening) → table_refusal w n s.table ≡ 0
     → Taken w n s (after_happenings w n s (start n s) hs).entries
 all-taken w n s hs z =
     let a = accepted w n s.table z in (all-kept w n s a (start n s) (first w n s a) hs).taken

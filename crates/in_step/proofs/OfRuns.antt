@@ -14,9 +14,10 @@ use Rattle.lists.proofs.SearchLaws.{both}
 use Rattle.table.specs.Table.{head, status, status_column, status_told, suspects, live}
 use Rattle.table.specs.Line.{line, is_live}
 use Rattle.table.specs.Properties.{none_suspected}
-use Rattle.table.specs.Rules.{numbered_table_refusal}
+use Rattle.table.specs.Rules.{table_refusal}
 use Rattle.table.proofs.Accepting.{accepted}
 use Rattle.table.proofs.LineLaws.{line_at}
+use Rattle.table.specs.declared.wiring.Wiring.{Wiring}
 use Rattle.plant.specs.Entry.{Entry, State, after, tested_of}
 use Rattle.detection.specs.Runs.{Call, Taken, after_runs, taken_from, taken_in, taken_all, is_late, taken_test}
 use Rattle.detection.specs.Rounds.{any_taken}
@@ -36,7 +37,7 @@ use Rattle.in_step.proofs.TurnHeard.{live-line}
 use Rattle.in_step.proofs.Runs.{is-run, run-starts, entries-back, taken-take}
 use Rattle.in_step.proofs.Kept.{all-taken, boards-in-step}
 
-module _ (w n : ℕ) where
+module _ (w : Wiring) (n : ℕ) where
   -- the late reply among the taken entries
   find-late : (s : State) (es : List Entry) → AllTaken w n s es → (j : ℕ) → was_late j (taken_from w n s es) ≡ true → NoReplyOf w n s es j
   unfolding taken_from any_taken late_of after_all
@@ -64,7 +65,7 @@ module _ (w n : ℕ) where
       record { number = suc o.number; entry = o.entry; stands = o.stands; kind = o.kind; tested = o.tested; was_live = o.was_live })
 
   -- a run of entries that it takes, as a list of runs
-  module _ (s : State) (es : List Entry) (z : numbered_table_refusal w n s.table ≡ 0) (t : AllTaken w n s es) where
+  module _ (s : State) (es : List Entry) (z : table_refusal w n s.table ≡ 0) (t : AllTaken w n s es) where
     abbrev calls : List Call
     calls = run_of w n es
 
@@ -102,7 +103,8 @@ module _ (w n : ℕ) where
         (any-before (late_of i) why.before (why.x ∷ why.rest) (why.late none)))
 
 -- of the boards' own lines
-have-causes : (w n : ℕ) (s : State) (y : System) → numbered_table_refusal w n s.table ≡ 0 → none_suspected n s.table ≡ true → AllTaken w n s y.entries
+have-causes : (w : Wiring) (n : ℕ) (s : State) (y : System) → table_refusal w n s.table ≡ 0 → none_suspected n s.table ≡ true
+    → AllTaken w n s y.entries
     → InStep w n s y → HaveCauses w n s y
 have-causes w n s y z none t h = record {
   suspected = λ i j hi hj l m q.

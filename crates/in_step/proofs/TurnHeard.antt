@@ -15,7 +15,7 @@ use Rattle.std.specs.Result.{result_unwrap_or}
 use Rattle.std.proofs.lemmas.Option.{same_Some, none-some}
 use Rattle.lists.proofs.BoolLaws.{by_bool, choice}
 use Rattle.table.specs.Table.{finished, live, row, status_column, status_crashed}
-use Rattle.table.specs.Rules.{round_over, numbered_table_refusal}
+use Rattle.table.specs.Rules.{round_over, table_refusal}
 use Rattle.table.specs.Line.{line, row_of, is_live}
 use Rattle.table.proofs.Accepting.{Accepted}
 use Rattle.table.proofs.LineLaws.{line_at, line-row, line-set, line-set-other}
@@ -35,6 +35,7 @@ use Rattle.cable.proofs.RowsSent.{pack-length, rows-travel}
 use Rattle.cable.proofs.CallsOnCable.{row-ok, live-ok, exchanged-ok, packed_reply, asks, asks-nobody}
 use Rattle.cable.proofs.CallsOnCable.{leaves, answers, idle-leaves, idle-answers, answering, told-leaves, others-keep}
 use Rattle.table.proofs.CellLaws.{line-holds, accepted-line}
+use Rattle.table.specs.declared.wiring.Wiring.{Wiring}
 use Rattle.cable.specs.Claims.{answered, reply_to, SameTurn}
 use Rattle.in_step.specs.System.{Board, End, Note, note_of, row_heard, own_line, tested_line, line_by}
 use Rattle.in_step.specs.Happenings.{entry_by}
@@ -50,7 +51,7 @@ pub record RowOf (n : ℕ) (t : List ℕ) (j : ℕ) (reply : Option (List ℕ)) 
   pub is_live : live n t j ≡ true
   pub below : j < n
 
-abbrev pub Heard : ℕ → ℕ → List ℕ → ℕ → Option (List ℕ) → Type 0
+abbrev pub Heard : Wiring → ℕ → List ℕ → ℕ → Option (List ℕ) → Type 0
 Heard w n t i reply = (reply ≡ None) ⊎ RowOf n t (named (next_answer w n i (line n t i))) reply
 
 -- a board's line shows whether it is live
@@ -58,7 +59,7 @@ pub live-line : (n : ℕ) (t : List ℕ) (k : ℕ) → is_live (line n t k) ≡ 
 live-line n t k = ap (λ (x : ℕ). eqb x 0) (line_at n t k status_column (omega arith))
 
 -- a live board's call writes its row
-pub row-written : (w n : ℕ) (t : List ℕ) (a : Accepted w n t) (k : ℕ) → k < n → live n t k ≡ true
+pub row-written : (w : Wiring) (n : ℕ) (t : List ℕ) (a : Accepted w n t) (k : ℕ) → k < n → live n t k ≡ true
     → row_from w n k (line n t k) ≡ pack n (row_of n (line n t k))
 row-written w n t a k hk l = row-ok w n k (line n t k) (live-ok w n t k (accepted-number w n t a) hk l)
 
@@ -81,23 +82,23 @@ row-answered : (n : ℕ) (t : List ℕ) (j : ℕ) → live n t j ≡ true → an
 unfolding answered replies
 row-answered n t j e = rw e
 
-none-outcome : (w n i : ℕ) (l : List ℕ) → tests w n i l ≡ true → outcome w n i l None ≡ 3
+none-outcome : (w : Wiring) (n i : ℕ) (l : List ℕ) → tests w n i l ≡ true → outcome w n i l None ≡ 3
 unfolding outcome outcome_of
 none-outcome w n i l e = rw e
 
-row-outcome : (w n i : ℕ) (l r : List ℕ) → tests w n i l ≡ true → eqb (outcome w n i l (Some r)) 3 ≡ false
+row-outcome : (w : Wiring) (n i : ℕ) (l r : List ℕ) → tests w n i l ≡ true → eqb (outcome w n i l (Some r)) 3 ≡ false
 unfolding outcome
 row-outcome w n i l r e = rw e (by-row i _ l r)
 
 -- a turn of board i, live and not finished
-module _ (w n : ℕ) (t : List ℕ) (a : Accepted w n t) (i : ℕ) (h : i < n) (alive : live n t i ≡ true) (going : finished n t i ≡ 1 → ⊥) where
+module _ (w : Wiring) (n : ℕ) (t : List ℕ) (a : Accepted w n t) (i : ℕ) (h : i < n) (alive : live n t i ≡ true) (going : finished n t i ≡ 1 → ⊥) where
   abbrev mine : List ℕ
   mine = line n t i
 
   abbrev j : ℕ
   j = turn_tested w n t i
 
-  z : numbered_table_refusal w n t ≡ 0
+  z : table_refusal w n t ≡ 0
   z = accepted-number w n t a
 
   -- no reply in time, and a reply
@@ -183,7 +184,7 @@ pub turn-entry : (c : Bool) (i : ℕ) → is_crash (entry_of (cond c 2 1) i) ≡
 turn-entry true i = refl
 turn-entry false i = refl
 
-module _ (w n : ℕ) (s : State) (a : Accepted w n s.table) (x : End) (ok : entry_refusal n s (entry_by w n s.table x) ≡ 0)
+module _ (w : Wiring) (n : ℕ) (s : State) (a : Accepted w n s.table) (x : End) (ok : entry_refusal n s (entry_by w n s.table x) ≡ 0)
     (reply : Option (List ℕ)) (heard : Heard w n s.table x.from reply)
     (says : tester_answer w n x.from (line n s.table x.from) reply ≡ Ok x.outcome) where
   facts : Takes n s (entry_by w n s.table x)
@@ -207,12 +208,12 @@ module _ (w n : ℕ) (s : State) (a : Accepted w n s.table) (x : End) (ok : entr
   own-outcome = rw no-crash (sym is-turn.outcome)
 
 -- a row that the tester sends as it was at its test, and what the board tested makes of it
-exchanged-before : (w n : ℕ) (t : List ℕ) (a : Accepted w n t) (kind i : ℕ) (h : i < n) → live n t i ≡ true → (finished n t i ≡ 1 → ⊥)
+exchanged-before : (w : Wiring) (n : ℕ) (t : List ℕ) (a : Accepted w n t) (kind i : ℕ) (h : i < n) → live n t i ≡ true → (finished n t i ≡ 1 → ⊥)
     → (k : ℕ) → k < n → k ≡ turn_tested w n t i → turn_outcome w n t kind i ≡ 1
     → exchanged_after w n k (line n t k) i (pack n (row_of n (line n t i))) ≡ line n (turn w n t kind i) k
 unfolding received message
 exchanged-before w n t a kind i h alive going k hk e o =
-    let z : numbered_table_refusal w n t ≡ 0 = accepted-number w n t a in
+    let z : table_refusal w n t ≡ 0 = accepted-number w n t a in
     let same : SameTurn w n t kind i = same-turn w n t kind i z h in
     let lives : live n t k ≡ true = ap (live n t) e ∙ answering w n t kind i z h alive going (λ q. omega (arith, o, q)) (λ q. omega (arith, o, q)) in
     let makes : makes_test w n t i ≡ true =
@@ -225,7 +226,7 @@ exchanged-before w n t a kind i h alive going k hk e o =
     (sym (same.tested_line k hk e ∙ rw (sym same.outcome_number ∙ o) refl))
 
 -- an entry that is taken: what it makes of the line of each board that can put it in force
-module _ (w n : ℕ) (s : State) (a : Accepted w n s.table) (e : Entry) (taken : entry_refusal n s e ≡ 0) where
+module _ (w : Wiring) (n : ℕ) (s : State) (a : Accepted w n s.table) (e : Entry) (taken : entry_refusal n s e ≡ 0) where
   abbrev t : List ℕ
   t = s.table
 
@@ -283,7 +284,7 @@ module _ (w n : ℕ) (s : State) (a : Accepted w n s.table) (e : Entry) (taken :
       unfolding tested_line
       was_tested q l made =
           let o : ℕ = turn_outcome w n t e.kind i in
-          let z : numbered_table_refusal w n t ≡ 0 = accepted-number w n t a in
+          let z : table_refusal w n t ≡ 0 = accepted-number w n t a in
           by_bool (eqb o 5)
           (λ x.
           let made : Some (told_after w n k b.line i) ≡ Some l = rw (outcome_here, x) at made in
@@ -344,7 +345,7 @@ module _ (w n : ℕ) (s : State) (a : Accepted w n s.table) (e : Entry) (taken :
     line-after l made =
         let u : List ℕ = acted w n t e in
         let lines = acted-lines w n s e a taken in
-        let ok : line_check w n k (line n u k) ≡ Ok tt = line-ok w n u k a.wired a.size lines.0 hk (line-holds w n u k (lines.1 k hk)) in
+        let ok : line_check w n k (line n u k) ≡ Ok tt = line-ok w n u k a.size lines.0 hk (line-holds w n u k (lines.1 k hk)) in
         by_bool (round_over n u)
         (λ o. rw (o, line-made l made, ok) (sym (boards-close n u lines.0 k hk)))
         (λ o. rw o (line-made l made))

@@ -4,7 +4,8 @@ use Rattle.std.specs.Prelude.{◌≡◌, ℕ, ◌<◌, true, List, take, Some, s
 use Rattle.table.specs.Table.{status_column, status_told, live}
 use Rattle.table.specs.Line.{is_live}
 use Rattle.table.specs.Properties.{none_suspected}
-use Rattle.table.specs.Rules.{numbered_table_refusal}
+use Rattle.table.specs.Rules.{table_refusal}
+use Rattle.table.specs.declared.wiring.Wiring.{Wiring}
 use Rattle.plant.specs.Turn.{kind_late}
 use Rattle.plant.specs.Entry.{Entry, State, tested_of}
 use Rattle.board.specs.Board.{suspicion_of}
@@ -16,7 +17,7 @@ abbrev pub entries_at : System → ℕ → List Entry
 entries_at y k = take (y.boards k).in_force y.entries
 
 -- one of the entries is a turn that tested board j, which was live then, and got no reply of it
-pub record NoReplyOf (w n : ℕ) (s : State) (es : List Entry) (j : ℕ) : Type 0 where
+pub record NoReplyOf (w : Wiring) (n : ℕ) (s : State) (es : List Entry) (j : ℕ) : Type 0 where
   pub number : ℕ
   pub entry : Entry
   pub stands : slice_get es number ≡ Some entry
@@ -24,7 +25,7 @@ pub record NoReplyOf (w n : ℕ) (s : State) (es : List Entry) (j : ℕ) : Type 
   pub tested : tested_of w n (table_at w n s es number) entry ≡ j
   pub was_live : live n (table_at w n s es number) j ≡ true
 
-pub record HaveCauses (w n : ℕ) (s : State) (y : System) : Type 0 where
+pub record HaveCauses (w : Wiring) (n : ℕ) (s : State) (y : System) : Type 0 where
   -- a live board's own line suspects board j, which is live after the entries in force at that board: one of these got no reply of j
   pub suspected : (i j : ℕ) → i < n → j < n → is_live (y.boards i).line ≡ true → live n (after_all w n s (entries_at y i)).table j ≡ true
       → suspicion_of (y.boards i).line j ≡ 1 → NoReplyOf w n s (entries_at y i) j
@@ -35,5 +36,5 @@ pub record HaveCauses (w n : ℕ) (s : State) (y : System) : Type 0 where
 -- Rule Causes in step: so it is, whatever happens, from a table in which no live board suspects a live one
 abbrev pub CausesInStep : Type 0
 CausesInStep =
-    (w n : ℕ) (s : State) (hs : List Happening) → numbered_table_refusal w n s.table ≡ 0 → none_suspected n s.table ≡ true
+    (w : Wiring) (n : ℕ) (s : State) (hs : List Happening) → table_refusal w n s.table ≡ 0 → none_suspected n s.table ≡ true
     → HaveCauses w n s (after_happenings w n s (start n s) hs)

@@ -2,7 +2,8 @@
 -- Assumes nothing.
 use Rattle.std.specs.Prelude.{◌≡◌, ℕ, suc, ◌*◌, ◌≤◌, ◌<◌, List, [], ◌∷◌, length, take, Some, slice_get}
 use Rattle.table.specs.Line.{line}
-use Rattle.table.specs.Rules.{numbered_table_refusal}
+use Rattle.table.specs.Rules.{table_refusal}
+use Rattle.table.specs.declared.wiring.Wiring.{Wiring}
 use Rattle.plant.specs.Entry.{Entry, State, entry_refusal, outcome_of}
 use Rattle.plant.specs.Run.{run}
 use Rattle.in_step.specs.System.{End, System, start, after_all, table_at}
@@ -14,12 +15,12 @@ schedule_of [] = []
 schedule_of (e ∷ es) = e.kind ∷ e.station ∷ schedule_of es
 
 -- a run of the entries, with a run sheet of the length that it asks for, takes each of them, and leaves the table and the tally of the master
-pub record IsRun (w n : ℕ) (s : State) (es : List Entry) (sheet : List ℕ) : Type 0 where
+pub record IsRun (w : Wiring) (n : ℕ) (s : State) (es : List Entry) (sheet : List ℕ) : Type 0 where
   pub number : (run w n s (schedule_of es) sheet).number ≡ 0
   pub taken : (run w n s (schedule_of es) sheet).taken ≡ length es
   pub state : (run w n s (schedule_of es) sheet).state ≡ after_all w n s es
 
-pub record InStep (w n : ℕ) (s : State) (y : System) : Type 0 where
+pub record InStep (w : Wiring) (n : ℕ) (s : State) (y : System) : Type 0 where
   -- the line of each board is that of the master's table after the entries that are in force at the board, which the master has made
   pub made : (k : ℕ) → k < n → (y.boards k).in_force ≤ length y.entries
   pub lines : (k : ℕ) → k < n → (y.boards k).line ≡ line n (table_at w n s y.entries (y.boards k).in_force) k
@@ -30,8 +31,8 @@ pub record InStep (w n : ℕ) (s : State) (y : System) : Type 0 where
       → (let now = after_all w n s y.entries in
       entry_refusal n now (entry_by w n now.table d) ≡ 0 → outcome_of w n now.table (entry_by w n now.table d) ≡ d.outcome)
 
--- Rule Boards in step: so it is, whatever happens, from a table that refusals 24 and 1 to 4 let through
+-- Rule Boards in step: so it is, whatever happens, from a table that refusals 1 to 4 let through
 abbrev pub BoardsInStep : Type 0
 BoardsInStep =
-    (w n : ℕ) (s : State) (hs : List Happening) → numbered_table_refusal w n s.table ≡ 0
+    (w : Wiring) (n : ℕ) (s : State) (hs : List Happening) → table_refusal w n s.table ≡ 0
     → InStep w n s (after_happenings w n s (start n s) hs)

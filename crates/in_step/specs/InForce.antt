@@ -2,14 +2,15 @@
 -- Assumes nothing.
 use Rattle.std.specs.Prelude.{◌≡◌, ℕ, ◌<◌, true, List, [], ◌∷◌, length, ⊤}
 use Rattle.table.specs.Table.{live}
-use Rattle.table.specs.Rules.{numbered_table_refusal}
+use Rattle.table.specs.Rules.{table_refusal}
+use Rattle.table.specs.declared.wiring.Wiring.{Wiring}
 use Rattle.plant.specs.Turn.{kind_late}
 use Rattle.plant.specs.Entry.{Entry, State, is_test, entry_refusal, after, tested_of}
 use Rattle.in_step.specs.System.{System, start}
 use Rattle.in_step.specs.Happenings.{Happening, after_happenings}
 
 -- entries as a master makes them: a run takes each, and one of kind 2 tests a live board
-abbrev pub AsMade : ℕ → ℕ → State → List Entry → Type 0
+abbrev pub AsMade : Wiring → ℕ → State → List Entry → Type 0
 AsMade w n s [] = ⊤
 AsMade w n s (e ∷ es) =
     (entry_refusal n s e ≡ 0)
@@ -24,5 +25,5 @@ pub record AllInForce (n : ℕ) (es : List Entry) (y : System) : Type 0 where
 -- Rule Entries get in force: so it is after some list of happenings, for each list of such entries
 abbrev pub EntriesGetInForce : Type 0
 EntriesGetInForce =
-    (w n : ℕ) (s : State) (es : List Entry) → numbered_table_refusal w n s.table ≡ 0 → AsMade w n s es
+    (w : Wiring) (n : ℕ) (s : State) (es : List Entry) → table_refusal w n s.table ≡ 0 → AsMade w n s es
     → (hs : List Happening) × AllInForce n es (after_happenings w n s (start n s) hs)

@@ -4,7 +4,8 @@ use Rattle.std.specs.Prelude.{◌≡◌, ℕ, ◌*◌, ◌≤◌, ◌<◌, true,
 use Rattle.lists.specs.Sums.{bit}
 use Rattle.table.specs.Table.{live}
 use Rattle.table.specs.Line.{is_live}
-use Rattle.table.specs.Rules.{not_live, numbered_table_refusal}
+use Rattle.table.specs.Rules.{not_live, table_refusal}
+use Rattle.table.specs.declared.wiring.Wiring.{Wiring}
 use Rattle.plant.specs.Entry.{Entry, State}
 use Rattle.board.specs.Board.{suspicion_of}
 use Rattle.detection.specs.Runs.{Call, call_of}
@@ -15,7 +16,7 @@ use Rattle.in_step.specs.Claims.{schedule_of}
 use Rattle.in_step.specs.Causes.{entries_at}
 
 -- entries as a list of one run, which takes them
-abbrev pub run_of : ℕ → ℕ → List Entry → List Call
+abbrev pub run_of : Wiring → ℕ → List Entry → List Call
 run_of w n es = call_of w n (schedule_of es) (replicate (4 * length es) 0) ∷ []
 
 -- board k knows who was not live at first: it is live, and its own line suspects just those
@@ -27,7 +28,7 @@ pub record Knows (n : ℕ) (s : State) (y : System) (k : ℕ) : Type 0 where
 -- as many as in the worst case of a run, and where these entries and the first table meet the detection conditions
 abbrev pub WaitInStep : Type 0
 WaitInStep =
-    (w n : ℕ) (s : State) (hs : List Happening) → numbered_table_refusal w n s.table ≡ 0
+    (w : Wiring) (n : ℕ) (s : State) (hs : List Happening) → table_refusal w n s.table ≡ 0
     → (let y = after_happenings w n s (start n s) hs in
     (k : ℕ) → k < n → live n s.table k ≡ true
     → (let calls = run_of w n (entries_at y k) in

@@ -17,9 +17,10 @@ use Rattle.lists.specs.Search.{every, select}
 use Rattle.lists.proofs.SearchLaws.{every-all}
 use Rattle.lists.proofs.BoolLaws.{by_bool, every-same}
 use Rattle.table.specs.Table.{suspects, live, row}
-use Rattle.table.specs.Rules.{numbered_table_check}
+use Rattle.table.specs.Rules.{table_check}
 use Rattle.table.proofs.CellLaws.{row_at}
 use Rattle.table.specs.Properties.{none_suspected, no_live_suspicion}
+use Rattle.table.specs.declared.wiring.Wiring.{Wiring}
 use Rattle.lamp.specs.declared.Doubt.{Doubt}
 use Rattle.lamp.specs.Doubt.{doubt_of, is_doubted, doubts_of, doubts, first_doubt, doubt_lamp, IsOut}
 
@@ -179,10 +180,10 @@ pub accurate-none : (n : ℕ) (t : List ℕ) → none_suspected n t ≡ true →
 accurate-none n t e = first-none n t (doubtless-accurate n t ∙ e)
 
 -- the lamp that is out
-pub out-is : (w n : ℕ) (t : List ℕ) → IsOut w n t → (numbered_table_check w n t ≡ Ok tt) × (none_suspected n t ≡ true)
+pub out-is : (w : Wiring) (n : ℕ) (t : List ℕ) → IsOut w n t → (table_check w n t ≡ Ok tt) × (none_suspected n t ≡ true)
 unfolding doubt_lamp
-out-is w n t out = let p = and_ok (numbered_table_check w n t) (Ok (first_doubt n t)) None out in (p.0, none-accurate n t (cc p.1))
+out-is w n t out = let p = and_ok (table_check w n t) (Ok (first_doubt n t)) None out in (p.0, none-accurate n t (cc p.1))
 
-pub is-out : (w n : ℕ) (t : List ℕ) → numbered_table_check w n t ≡ Ok tt → none_suspected n t ≡ true → IsOut w n t
+pub is-out : (w : Wiring) (n : ℕ) (t : List ℕ) → table_check w n t ≡ Ok tt → none_suspected n t ≡ true → IsOut w n t
 unfolding doubt_lamp
 is-out w n t ok e = rw (ok, accurate-none n t e) refl

@@ -6,8 +6,9 @@ use Rattle.lists.specs.Search.{select}
 use Rattle.lists.specs.declared.refusal.Refusal.{Refusal}
 use Rattle.lists.specs.Refusal.{◌and◌}
 use Rattle.table.specs.Table.{suspects, live}
-use Rattle.table.specs.Rules.{numbered_table_check}
+use Rattle.table.specs.Rules.{table_check}
 use Rattle.table.specs.Properties.{none_suspected}
+use Rattle.table.specs.declared.wiring.Wiring.{Wiring}
 use Rattle.lamp.specs.declared.Doubt.{Doubt}
 
 -- the doubt of station i about station k
@@ -30,14 +31,14 @@ doubts n t = flat_map (doubts_of n t) (select (live n t) n)
 unfoldable pub first_doubt : ℕ → List ℕ → Option Doubt
 first_doubt n t = slice_get (doubts n t) 0
 
--- Rule Lamp call: the lamp's pair or none, on the wiring with number w; refusals 24 and 1 to 4
-unfoldable pub doubt_lamp : ℕ → ℕ → List ℕ → Result (Option Doubt) Refusal
-doubt_lamp w n t = numbered_table_check w n t and Ok (first_doubt n t)
+-- Rule Lamp call: the lamp's pair or none, on the wiring w; refusals 1 to 4
+unfoldable pub doubt_lamp : Wiring → ℕ → List ℕ → Result (Option Doubt) Refusal
+doubt_lamp w n t = table_check w n t and Ok (first_doubt n t)
 
 -- the lamp is out: its call answers that there is no pair
-abbrev pub IsOut : ℕ → ℕ → List ℕ → Type 0
+abbrev pub IsOut : Wiring → ℕ → List ℕ → Type 0
 IsOut w n t = doubt_lamp w n t ≡ Ok None
 
--- Rule Lamp is out: exactly if refusals 24 and 1 to 4 let the table through and no live station suspects a live one
+-- Rule Lamp is out: exactly if refusals 1 to 4 let the table through and no live station suspects a live one
 abbrev pub OutIfAccurate : Type 0
-OutIfAccurate = (w n : ℕ) (t : List ℕ) → IsOut w n t ↔ ((numbered_table_check w n t ≡ Ok tt) × (none_suspected n t ≡ true))
+OutIfAccurate = (w : Wiring) (n : ℕ) (t : List ℕ) → IsOut w n t ↔ ((table_check w n t ≡ Ok tt) × (none_suspected n t ≡ true))

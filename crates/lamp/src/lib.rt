@@ -11,6 +11,7 @@ ghost use Rattle.lamp.specs.Doubt.{first_doubt, doubt_lamp};
 use lists::refusal::Refusal;
 use table::Station;
 use table::lent::Table;
+use table::wiring::Wiring;
 
 // The live station `by` suspects the live station `of`.
 #[derive(Clone, Copy, Debug, PartialEq, Eq)]
@@ -19,12 +20,12 @@ pub struct Doubt {
     pub of: Station,
 }
 
-// The first pair of a live station and a live one that it suspects, if there is one: refusals 24 and 1 to 4.
+// The first pair of a live station and a live one that it suspects, if there is one: refusals 1 to 4.
 #[tactic(auto, unfolding(crate::specs::Doubt::doubt_lamp))]
-pub fn doubt_lamp(wiring: usize, n: usize, table: &[u8]) -> Result<Option<Doubt>, Refusal>
+pub fn doubt_lamp(wiring: Wiring, n: usize, table: &[u8]) -> Result<Option<Doubt>, Refusal>
     ensures { result ≡ doubt_lamp wiring n table.now }
 {
-    let (_, table) = Table::checked_by_number(wiring, n, table)?;
+    let table = Table::checked(wiring, n, table)?;
     Ok(first_doubt(&table))
 }
 

@@ -15,11 +15,12 @@ use Rattle.lists.proofs.BoolLaws.{by_bool}
 use Rattle.lists.proofs.SearchLaws.{both, least-is, least-before}
 use Rattle.lists.proofs.SumLaws.{sum_below-suc, sum-split}
 use Rattle.table.specs.Sizes.{is_size, level, distances}
-use Rattle.table.specs.Wiring.{wiring_cube, end_distance}
+use Rattle.table.specs.Wiring.{end_distance}
 use Rattle.table.specs.Table.{next_column, tests_column, next_distance, tests_made, row, live}
 use Rattle.table.proofs.WiringLaws.{end-cube}
 use Rattle.table.proofs.SizeLaws.{size-distances}
 use Rattle.table.proofs.CellLaws.{row-length, row_at}
+use Rattle.table.specs.declared.wiring.Wiring.TheVariants.{Cube}
 use Rattle.station.specs.Groups.{station_at, is_present, width, member}
 use Rattle.station.specs.Tests.{unsuspected, first_place, first, due}
 use Rattle.station.proofs.WiredLaws.{cube_due}
@@ -98,8 +99,8 @@ led-narrow n L L' t t' fewer same led i h l =
     rw (s.0, s.1) (omega (arith, led i h (fewer i h l), sum-le (next_distance n t i) (λ m b. leads-narrow n L L' i m fewer h l)))
 
 -- a turn keeps it
-module _ (n : ℕ) (L : ℕ → Bool) (t' : List ℕ) (s : State) (e : Entry) (plain : Plain wiring_cube n L s.table)
-    (turn : TurnTaken wiring_cube n L s e t') (led : Led n L s.table) where
+module _ (n : ℕ) (L : ℕ → Bool) (t' : List ℕ) (s : State) (e : Entry) (plain : Plain Cube n L s.table)
+    (turn : TurnTaken Cube n L s e t') (led : Led n L s.table) where
   abbrev t : List ℕ
   t = s.table
 
@@ -107,42 +108,42 @@ module _ (n : ℕ) (L : ℕ → Bool) (t' : List ℕ) (s : State) (e : Entry) (p
   i = e.station
 
   abbrev m : ℕ
-  m = next_test wiring_cube n t i
+  m = next_test Cube n t i
 
   clear : (x : ℕ) → x < n → L x ≡ true → unsuspected (row n t i) x ≡ true
   clear x hx lx =
       unsuspected-at (row n t i) x (omega (arith, row-length n t i plain.lines.0 turn.below))
       ∙ eq-eqb _ 0 (row_at n t i x hx ∙ plain.accurate i x turn.below hx turn.is_live lx)
 
-  leads-here : makes_test wiring_cube n t i ≡ true → leads_at n L i m ≡ true
+  leads-here : makes_test Cube n t i ≡ true → leads_at n L i m ≡ true
   leads-here makes =
       due-leads n L (row n t i) i m (row-length n t i plain.lines.0 turn.below) turn.below turn.is_live clear
-      (sym (cube_due wiring_cube (row n t i) i m refl) ∙ test-due wiring_cube n t i makes)
+      (sym (cube_due Cube (row n t i) i m refl) ∙ test-due Cube n t i makes)
 
-  next-is : makes_test wiring_cube n t i ≡ true → next_distance n t' i ≡ suc m
+  next-is : makes_test Cube n t i ≡ true → next_distance n t' i ≡ suc m
   unfolding next_after
   next-is makes = omega (arith, rw makes at turn.heads.next)
 
   own : tests_made n t' i ≤ leads_below n L i (next_distance n t' i)
   own =
-      by_bool (makes_test wiring_cube n t i)
+      by_bool (makes_test Cube n t i)
       (λ makes.
       let one : bit (leads_at n L i m) ≡ 1 = ap bit (leads-here makes) in
       rw (next-is makes) (omega (
         arith,
         rw makes at turn.heads.tests,
         led i turn.below turn.is_live,
-        leads-grow n L i (next_distance n t i) m (next_test-low wiring_cube n t i),
+        leads-grow n L i (next_distance n t i) m (next_test-low Cube n t i),
         sum_below-suc (λ m. bit (leads_at n L i m)) m,
         one,
       )))
       (λ none.
-      let last : next_distance n t' i ≡ end_distance wiring_cube n = rw none at turn.heads.next in
+      let last : next_distance n t' i ≡ end_distance Cube n = rw none at turn.heads.next in
       rw last (omega (
         arith,
         rw none at turn.heads.tests,
         led i turn.below turn.is_live,
-        leads-grow n L i (next_distance n t i) (end_distance wiring_cube n) (plain.lines.1 i turn.below).pass.next_high,
+        leads-grow n L i (next_distance n t i) (end_distance Cube n) (plain.lines.1 i turn.below).pass.next_high,
       )))
 
   pub turn-led : Led n L t'
@@ -158,7 +159,7 @@ module _ (n : ℕ) (T : List ℕ) (low : n ≤ distances n) where
   abbrev L : ℕ → Bool
   L = live n T
 
-  pub led-within : (t : List ℕ) → Plain wiring_cube n L t → Led n L t → sum_below (λ i. cond (L i) (tests_made n t i) 0) n ≤ tests_per_round n T
+  pub led-within : (t : List ℕ) → Plain Cube n L t → Led n L t → sum_below (λ i. cond (L i) (tests_made n t i) 0) n ≤ tests_per_round n T
   led-within t plain led =
       let each : (i : ℕ) → i < n → cond (L i) (tests_made n t i) 0 ≤ leads_below n L i (distances n) =
       λ i h.
@@ -170,7 +171,7 @@ module _ (n : ℕ) (T : List ℕ) (low : n ≤ distances n) where
       omega (arith, sum-le n each, led-count n T low)
 
 -- what bounds the tests on the cube
-abbrev pub cube-tests : (n : ℕ) → is_size n ≡ true → TestsBound wiring_cube n
+abbrev pub cube-tests : (n : ℕ) → is_size n ≡ true → TestsBound Cube n
 cube-tests n size = record {
   Fits = λ L t. Led n L t;
   starts = λ L t fresh i h l. omega (arith, (fresh i h).untested);

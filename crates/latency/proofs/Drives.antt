@@ -12,6 +12,7 @@ use lib.ListN.{length, length-append}
 use Rattle.lists.proofs.BoolLaws.{by_bool}
 use Rattle.table.specs.Table.{live}
 use Rattle.table.proofs.Accepting.{Accepted, accepted}
+use Rattle.table.specs.declared.wiring.Wiring.{Wiring}
 use Rattle.plant.specs.Turn.{kind_turn}
 use Rattle.plant.specs.Entry.{State, entry_of, entry_refusal, after}
 use Rattle.granter.specs.Grant.{grant_refusal}
@@ -34,23 +35,23 @@ use Rattle.latency.specs.Crash.{DrivesKnownFromAnyMoment}
 use Rattle.latency.proofs.Known.{Quiet, Facts, facts, known-from-now}
 
 -- two chains, one behind the other
-wired-append : {w n : ℕ} {s s' s'' : State} {xs ys : List Taken} → WiredChain w n s xs s'
+wired-append : {w : Wiring} {n : ℕ} {s s' s'' : State} {xs ys : List Taken} → WiredChain w n s xs s'
     → WiredChain w n s' ys s'' → WiredChain w n s (xs ++ ys) s''
 wired-append ends d = d
 wired-append (next e a z c) d = next e a z (wired-append c d)
 
 -- from s to s' by so many turns of kind 1
-record Turns (w n : ℕ) (s s' : State) (k : ℕ) : Type 0 where
+record Turns (w : Wiring) (n : ℕ) (s s' : State) (k : ℕ) : Type 0 where
   pub taken : List Taken
   pub chain : WiredChain w n s taken s'
   pub quiet : Quiet taken
   pub long : length taken ≡ k
 
-no-turns : (w n : ℕ) (s : State) → Turns w n s s 0
+no-turns : (w : Wiring) (n : ℕ) (s : State) → Turns w n s s 0
 unfolding all_taken
 no-turns w n s = record { taken = []; chain = ends; quiet = record { no_crash = refl; no_late = refl }; long = refl }
 
-more-turns : {w n : ℕ} {s s' s'' : State} {j k : ℕ} → Turns w n s s' j → Turns w n s' s'' k → Turns w n s s'' (j + k)
+more-turns : {w : Wiring} {n : ℕ} {s s' s'' : State} {j k : ℕ} → Turns w n s s' j → Turns w n s' s'' k → Turns w n s s'' (j + k)
 more-turns a b = record {
   taken = a.taken ++ b.taken;
   chain = wired-append a.chain b.chain;
@@ -61,10 +62,10 @@ more-turns a b = record {
   long = omega (arith, length-append a.taken b.taken, a.long, b.long);
 }
 
-so-many : {w n : ℕ} {s s' : State} {j k : ℕ} → Turns w n s s' j → j ≡ k → Turns w n s s' k
+so-many : {w : Wiring} {n : ℕ} {s s' : State} {j k : ℕ} → Turns w n s s' j → j ≡ k → Turns w n s s' k
 so-many a e = record { taken = a.taken; chain = a.chain; quiet = a.quiet; long = a.long ∙ e }
 
-one-turn : (w n : ℕ) (s : State) (i : ℕ) → Accepted w n s.table → entry_refusal n s (entry_of kind_turn i) ≡ 0
+one-turn : (w : Wiring) (n : ℕ) (s : State) (i : ℕ) → Accepted w n s.table → entry_refusal n s (entry_of kind_turn i) ≡ 0
     → Turns w n s (after w n s (entry_of kind_turn i)) 1
 unfolding all_taken
 one-turn w n s i ok z = record {
@@ -75,7 +76,8 @@ one-turn w n s i ok z = record {
 }
 
 -- as long as a drive does not stop
-grants-turns : (w n : ℕ) (s : State) (last : ℕ) → Grantable w n s.table last → (k : ℕ) → ((j : ℕ) → j < k → stops w n (stand_at s last) j ≡ false)
+grants-turns : (w : Wiring) (n : ℕ) (s : State) (last : ℕ) → Grantable w n s.table last → (k : ℕ)
+    → ((j : ℕ) → j < k → stops w n (stand_at s last) j ≡ false)
     → Turns w n s (after_grants w n (stand_at s last) k).state k
 unfolding after_grants grant_turn
 grants-turns w n s last g zero going = no-turns w n s
@@ -87,7 +89,7 @@ grants-turns w n s last g (suc k) going =
     so-many (more-turns before (one-turn w n (after_grants w n p k).state (granted_at n (after_grants w n p k)) d.ok z)) (omega arith)
 
 -- a whole drive
-drive-turns : (w n : ℕ) (s : State) (last : ℕ) → Turns w n s (drive w n s last).state (drive w n s last).grants
+drive-turns : (w : Wiring) (n : ℕ) (s : State) (last : ℕ) → Turns w n s (drive w n s last).state (drive w n s last).grants
 unfolding drive outcome_after
 drive-turns w n s last =
     by_bool (eqb (grant_refusal w n s.table last) 0)
@@ -97,16 +99,16 @@ drive-turns w n s last =
     (λ e. rw e (no-turns w n s))
 
 -- drives
-drives-turns : (w n : ℕ) (s : State) (lasts : List ℕ) → Turns w n s (after_drives w n s lasts) (grants_of w n s lasts)
+drives-turns : (w : Wiring) (n : ℕ) (s : State) (lasts : List ℕ) → Turns w n s (after_drives w n s lasts) (grants_of w n s lasts)
 unfolding after_mixed grants_of
 drives-turns w n s [] = no-turns w n s
 drives-turns w n s (last ∷ lasts) =
     so-many (more-turns (drive-turns w n s last) (drives-turns w n (drive w n s last).state lasts)) (omega arith)
 
 -- a drive from the start of a round: with all its grants but the last the round is still open
-module _ (w n : ℕ) (s : State) (given : DetectionPremises w n s []) where
+module _ (w : Wiring) (n : ℕ) (s : State) (given : DetectionPremises w n s []) where
   shown : Facts w n s.table
-  shown = facts w n s.table given.wiring given.size given.two_live
+  shown = facts w n s.table given.size given.two_live
 
   inv : Accepted w n s.table → InRound w n (live n s.table) s.table [] s.table
   inv ok = first_round w n s.table ok given.start (trusts w n s.table ok given.accurate)
@@ -154,4 +156,4 @@ drives-known-from-any-moment w n s lasts given far =
     let ok = accepted w n s.table given.accepted in
     let t = drives-turns w n s lasts in
     let plain = plain-at w n s.table ok (trusts w n s.table ok given.accurate) in
-    known-from-now w n s.table ok.wired ok.size given.two_live t.chain plain t.quiet (omega (arith, t.long))
+    known-from-now w n s.table ok.size given.two_live t.chain plain t.quiet (omega (arith, t.long))

@@ -1,6 +1,5 @@
 -- After how many turns all is known: from the start of a round, and from any moment of one, whose rest comes first.
 -- Assumes nothing.
-use Rattle.std.specs.Prelude.{Ok}
 use mathlib.Core.Path.{◌≡◌, refl}
 use mathlib.Core.Logic.{by_cases}
 use mathlib.Core.Bool.{Bool, true, false, not}
@@ -14,12 +13,13 @@ use lib.ListN.{length, get_or}
 use Rattle.lists.proofs.BoolLaws.{by_bool}
 use Rattle.lists.proofs.SearchLaws.{both}
 use Rattle.table.specs.Sizes.{is_size}
-use Rattle.table.specs.Wiring.{wiring_cube, wiring_ring, wiring_check}
 use Rattle.table.specs.Table.{live}
 use Rattle.table.specs.Rules.{round_over}
 use Rattle.table.specs.Properties.{live_count}
 use Rattle.table.proofs.SizeLaws.{size-bounds}
 use Rattle.table.proofs.Accepting.{Accepted}
+use Rattle.table.specs.declared.wiring.Wiring.{Wiring}
+use Rattle.table.specs.declared.wiring.Wiring.TheVariants.{Cube, Ring}
 use Rattle.plant.specs.Round.{after_round}
 use Rattle.plant.specs.Entry.{Entry, State, is_crash, entry_refusal, acted, after}
 use Rattle.plant.proofs.RulesKept.{accepted-kept}
@@ -32,7 +32,7 @@ use Rattle.detection.proofs.Chain.{WiredChain, ends, next}
 use Rattle.detection.proofs.TurnEffect.{Plain, Company}
 use Rattle.detection.proofs.RoundKnowledge.{InRound, restart, TurnTaken, RoundKnowledge}
 use Rattle.detection.proofs.Course.{taken-turn, course}
-use Rattle.detection.proofs.DetectionClaim.{company-of, someone, on-each}
+use Rattle.detection.proofs.DetectionClaim.{company-of, someone}
 use Rattle.latency.specs.Bound.{turns_per_round, turns_until_known, RoundWithin}
 use Rattle.detection.proofs.Cube.{cube}
 use Rattle.detection.proofs.RingKnowledge.{ring}
@@ -54,7 +54,7 @@ quiet-first x xs q =
     (not-true _ a.0, not-true _ b.0, record { no_crash = a.1; no_late = b.1 })
 
 -- where a round starts in a table in which no live station suspects a live one; L is the live set
-pub record Started (w n : ℕ) (L : ℕ → Bool) (xs : List Taken) (s' : State) (total : ℕ) : Type 0 where
+pub record Started (w : Wiring) (n : ℕ) (L : ℕ → Bool) (xs : List Taken) (s' : State) (total : ℕ) : Type 0 where
   pub from : State
   pub chain : WiredChain w n from xs s'
   pub ok : Accepted w n from.table
@@ -63,7 +63,7 @@ pub record Started (w n : ℕ) (L : ℕ → Bool) (xs : List Taken) (s' : State)
   pub enough : total ≤ length xs
 
 -- a chain without crashes and late replies from the middle of a round on; T has the live set
-module _ (w n : ℕ) (T : List ℕ) (two : 2 ≤ live_count n T) where
+module _ (w : Wiring) (n : ℕ) (T : List ℕ) (two : 2 ≤ live_count n T) where
   abbrev L : ℕ → Bool
   L = live n T
 
@@ -110,7 +110,7 @@ module _ (w n : ℕ) (T : List ℕ) (two : 2 ≤ live_count n T) where
         rest-more s e ok takes p holds q.0 q.1 total xs s' chain q.2 far (λ plain now room. rest-of-round chain plain now q.2 total pos room)
 
 -- what is shown of chains without crashes and late replies, where T has the live set
-pub record Facts (w n : ℕ) (T : List ℕ) : Type 0 where
+pub record Facts (w : Wiring) (n : ℕ) (T : List ℕ) : Type 0 where
   -- from the start of a round: of every round, of all turns by the rounds that have closed, and of these
   pub each : {s s' : State} {xs : List Taken} → WiredChain w n s xs s' → Accepted w n s.table → InRound w n (live n T) s.table [] s.table → Quiet xs
       → (k : ℕ) → k ≤ length (cut [] xs).closed → RoundWithin w n T (get_or (all_rounds (cut [] xs)) k [])
@@ -122,7 +122,7 @@ pub record Facts (w n : ℕ) (T : List ℕ) : Type 0 where
   pub known : {s' : State} {xs : List Taken} → Started w n (live n T) xs s' (turns_until_known w n T) → AllKnow n T s'.table
 
 -- K says after how many rounds all is known, and B bounds the tests of a round
-module _ (w n : ℕ) (T : List ℕ) (size : is_size n ≡ true) (two : 2 ≤ live_count n T) (K : RoundKnowledge w n (live n T))
+module _ (w : Wiring) (n : ℕ) (T : List ℕ) (size : is_size n ≡ true) (two : 2 ≤ live_count n T) (K : RoundKnowledge w n (live n T))
     (B : TestsBound w n) (enough : K.enough ≤ worst_rounds w n) where
   company : Company n (live n T)
   company = company-of n T two
@@ -170,24 +170,19 @@ module _ (w n : ℕ) (T : List ℕ) (size : is_size n ≡ true) (two : 2 ≤ liv
   }
 
 -- what bounds the tests on the ring, of which the count is n
-abbrev pub on-the-ring : (n : ℕ) → is_size n ≡ true → TestsBound wiring_ring n
-on-the-ring n size = ring-tests wiring_ring n refl (omega (arith, size-bounds n size)) (λ T. refl)
+abbrev pub on-the-ring : (n : ℕ) → is_size n ≡ true → TestsBound Ring n
+on-the-ring n size = ring-tests Ring n refl (omega (arith, size-bounds n size)) (λ T. refl)
 
 -- on each wiring
-pub facts : (w n : ℕ) (T : List ℕ) → wiring_check w ≡ Ok tt → is_size n ≡ true → 2 ≤ live_count n T → Facts w n T
-facts w n T wired size two = on-each (λ (w : ℕ). Facts w n T) w wired on-cube on-ring
-  where
-    on-cube : Facts wiring_cube n T
-    on-cube = facts-by wiring_cube n T size two (cube n T size) (cube-tests n size) (omega arith)
-
-    on-ring : Facts wiring_ring n T
-    on-ring =
-        let z = someone n T (omega (arith, two)) in
-        let K = ring wiring_ring n (live n T) refl (omega (arith, size-bounds n size)) (company-of n T two) z.0 z.1 z.2 in
-        facts-by wiring_ring n T size two K (on-the-ring n size) (omega arith)
+pub facts : (w : Wiring) (n : ℕ) (T : List ℕ) → is_size n ≡ true → 2 ≤ live_count n T → Facts w n T
+facts Cube n T size two = facts-by Cube n T size two (cube n T size) (cube-tests n size) (omega arith)
+facts Ring n T size two =
+    let z = someone n T (omega (arith, two)) in
+    let K = ring Ring n (live n T) refl (omega (arith, size-bounds n size)) (company-of n T two) z.0 z.1 z.2 in
+    facts-by Ring n T size two K (on-the-ring n size) (omega arith)
 
 -- from any moment on, of which n·n bounds the turns that are left
-module _ (w n : ℕ) (T : List ℕ) (wired : wiring_check w ≡ Ok tt) (size : is_size n ≡ true) (two : 2 ≤ live_count n T) where
+module _ (w : Wiring) (n : ℕ) (T : List ℕ) (size : is_size n ≡ true) (two : 2 ≤ live_count n T) where
   -- a turn leaves fewer
   left-less : (s : State) (e : Entry) → Accepted w n s.table → Plain w n (live n T) s.table → TurnTaken w n (live n T) s e (acted w n s.table e)
       → Unit {0}
@@ -201,7 +196,7 @@ module _ (w n : ℕ) (T : List ℕ) (wired : wiring_check w ≡ Ok tt) (size : i
   pub known-from-now : {s s' : State} {xs : List Taken} → WiredChain w n s xs s' → Plain w n (live n T) s.table → Quiet xs
       → n * n + turns_until_known w n T ≤ length xs → AllKnow n T s'.table
   known-from-now {s} chain p quiet far =
-      let f = facts w n T wired size two in
+      let f = facts w n T size two in
       let most = all-left-most w n s.table size p.lines in
       let total : ℕ = turns_until_known w n T in
       let started = rest-of-round w n T two (λ _. Unit {0}) (all_left w n) left-less chain p tt quiet total f.some (omega (arith, most)) in

@@ -1,6 +1,5 @@
 -- The claim from a crash on: no live board suspects a live one at that moment either.
 -- Assumes nothing.
-use Rattle.std.specs.Prelude.{Ok}
 use mathlib.Core.Path.{◌≡◌, refl, sym, ap, ◌∙◌, subst}
 use mathlib.Core.Logic.{◌⊎◌, inl, inr, by_cases}
 use mathlib.Core.Bool.{Bool, true, false, cond, not}
@@ -8,7 +7,7 @@ use mathlib.Core.List.{List, [], ◌∷◌, ◌++◌}
 use Prim.Native.Nat.{ℕ, suc, ◌+◌, ◌-◌, ◌≤◌, ◌<◌}
 use native.Mathlib.Decide.{ℕ_discrete}
 use native.Mathlib.Omega.{arith}
-use borrow.Author.Tests.{not-true, eqb-true, eq-eqb, ne_eqb}
+use borrow.Author.Tests.{not-true, eq-eqb, ne_eqb}
 use lib.Dec.{eqb}
 use lib.ListN.{length}
 use Rattle.lists.specs.Sums.{sum_below, bit}
@@ -19,11 +18,13 @@ use Rattle.slots.proofs.Counts.{sum-le}
 use Rattle.table.specs.Table.{head, cell, status_column, next_column, finished_column, tests_column, status_crashed}
 use Rattle.table.specs.Table.{next_distance, finished, tests_made, suspects, live}
 use Rattle.table.specs.Sizes.{is_size}
-use Rattle.table.specs.Wiring.{wiring_cube, wiring_ring, wiring_check}
 use Rattle.table.specs.Rules.{round_over}
 use Rattle.table.specs.Properties.{live_count}
 use Rattle.table.proofs.Accepting.{Accepted}
 use Rattle.table.proofs.CellLaws.{cell_other, TurnCounts}
+use Rattle.table.specs.declared.wiring.Wiring.{Wiring}
+use Rattle.table.specs.declared.wiring.Wiring.TheVariants.{Cube, Ring}
+use Rattle.table.proofs.WiringLaws.{same-is}
 use Rattle.plant.specs.Turn.{makes_test, crash}
 use Rattle.plant.specs.Round.{reset_lines, after_round}
 use Rattle.plant.specs.Entry.{Entry, State, is_crash, entry_refusal, acted, after}
@@ -35,7 +36,7 @@ use Rattle.detection.proofs.TakenLaws.{taken_at}
 use Rattle.detection.proofs.Chain.{WiredChain, ends, next, on-wiring, chain_first, chain-all}
 use Rattle.detection.proofs.Parts.{Parted, parted}
 use Rattle.detection.proofs.Fates.{was-live}
-use Rattle.detection.proofs.DetectionClaim.{trusts, company-of, plain-at, first_round, on-each}
+use Rattle.detection.proofs.DetectionClaim.{trusts, company-of, plain-at, first_round}
 use Rattle.detection.proofs.Course.{taken-turn}
 use Rattle.detection.proofs.DrivenDetection.{mixed-left}
 use Rattle.detection.specs.Driven.{runs_of_mixed}
@@ -53,7 +54,7 @@ abbrev Clean : ℕ → List ℕ → Type 0
 Clean n t = (i j : ℕ) → i < n → j < n → live n t i ≡ true → live n t j ≡ true → suspects n t i j ≡ 0
 
 -- a taken entry
-module _ (w n : ℕ) (s : State) (e : Entry) (ok : Accepted w n s.table) (z : entry_refusal n s e ≡ 0) where
+module _ (w : Wiring) (n : ℕ) (s : State) (e : Entry) (ok : Accepted w n s.table) (z : entry_refusal n s e ≡ 0) where
   abbrev t' : List ℕ
   t' = (after w n s e).table
 
@@ -92,12 +93,12 @@ module _ (w n : ℕ) (s : State) (e : Entry) (ok : Accepted w n s.table) (z : en
       let turn = taken-turn w n (live n s.table) (company-of n s.table two) s e ok z (plain-at w n s.table ok clean) c in_time in
       rows-stay i j hj ∙ turn.kept.plain.accurate i j hi hj (was-live w n s e ok z i hi li) (was-live w n s e ok z j hj lj)
 
-fewer-after : {w n : ℕ} {s s' : State} {xs : List Taken} → WiredChain w n s xs s' → live_count n s'.table ≤ live_count n s.table
+fewer-after : {w : Wiring} {n : ℕ} {s s' : State} {xs : List Taken} → WiredChain w n s xs s' → live_count n s'.table ≤ live_count n s.table
 fewer-after ends = omega arith
 fewer-after {w} {n} {s} (next e ok z chain) = omega (arith, fewer-live w n s e ok z, fewer-after chain)
 
 -- B bounds the tests of a round
-module _ (w n : ℕ) (B : TestsBound w n) where
+module _ (w : Wiring) (n : ℕ) (B : TestsBound w n) where
   -- what holds at every moment, with crashes but without late replies
   record Steady (t : List ℕ) : Type 0 where
     pub clean : Clean n t
@@ -189,10 +190,10 @@ module _ (w n : ℕ) (B : TestsBound w n) where
         let still = B.turns L (acted w n s.table e) s e p turn fits in
         (still, omega (arith, made-more s e (acted w n s.table e) turn, made-most (acted w n s.table e) turn.kept.plain still))
 
-    known-since : wiring_check w ≡ Ok tt → is_size n ≡ true → {s s' : State} {xs : List Taken} → WiredChain w n s xs s' → Plain w n L s.table
+    known-since : is_size n ≡ true → {s s' : State} {xs : List Taken} → WiredChain w n s xs s' → Plain w n L s.table
         → B.Fits L s.table → Quiet xs → turns_from_crash w n T ≤ length xs → AllKnow n T s'.table
-    known-since wired size chain p fits quiet far =
-        let f = facts w n T wired size two in
+    known-since size chain p fits quiet far =
+        let f = facts w n T size two in
         f.known (rest-of-round w n T two (B.Fits L) left_of left-less chain p fits quiet (turns_until_known w n T) f.some (omega arith)).1
 
 -- what all entries pass, those of each part do
@@ -205,7 +206,7 @@ all_parts q (x ∷ xs) ys a =
     (rw (b.0, r.0), r.1)
 
 -- on a wiring
-module _ (w n : ℕ) (B : TestsBound w n) (s : State) (calls : List Call) (before : List Taken) (x : Taken) (rest : List Taken)
+module _ (w : Wiring) (n : ℕ) (B : TestsBound w n) (s : State) (calls : List Call) (before : List Taken) (x : Taken) (rest : List Taken)
     (given : LastCrash w n s calls before x rest) (far : turns_from_crash w n (table_after x) ≤ length rest) where
   part : Parted n s before x rest (after_runs s calls)
   part = parted (chain-all n s calls given.long) before x rest given.parts
@@ -223,7 +224,7 @@ module _ (w n : ℕ) (B : TestsBound w n) (s : State) (calls : List Call) (befor
   wired = each-part (is_on w) given.one_wiring
 
   on : x.wiring ≡ w
-  on = eqb-true x.wiring w wired.1
+  on = same-is x.wiring w wired.1
 
   same : taken_at w n x.before x.entry ≡ x
   same = rw (← on, ← part.size) refl
@@ -256,7 +257,7 @@ module _ (w n : ℕ) (B : TestsBound w n) (s : State) (calls : List Call) (befor
       let then = steady-after w n B x.before x.entry ok part.taken in_time now st in
       let plain = plain-at w n t (accepted-kept w n x.before x.entry ok part.taken) then.clean in
       let enough : turns_from_crash w n t ≤ length rest = rw (← left) far in
-      rw left (known-since w n B t two given.wiring given.size behind plain then.fits
+      rw left (known-since w n B t two given.size behind plain then.fits
       (record { no_crash = given.no_more; no_late = late.2 }) (omega (arith, enough)))
 
   from-crash : AllKnow n (table_after x) (after_runs s calls).table
@@ -268,12 +269,8 @@ module _ (w n : ℕ) (B : TestsBound w n) (s : State) (calls : List Call) (befor
 
 -- ends in themselves
 pub known-from-crash : KnownFromCrash
-known-from-crash w n s calls before x rest given far =
-    on-each
-    (λ (w : ℕ). LastCrash w n s calls before x rest → turns_from_crash w n (table_after x) ≤ length rest
-    → AllKnow n (table_after x) (after_runs s calls).table)
-    w given.wiring (from-crash wiring_cube n (cube-tests n given.size) s calls before x rest)
-    (from-crash wiring_ring n (on-the-ring n given.size) s calls before x rest) given far
+known-from-crash Cube n s calls before x rest given far = from-crash Cube n (cube-tests n given.size) s calls before x rest given far
+known-from-crash Ring n s calls before x rest given far = from-crash Ring n (on-the-ring n given.size) s calls before x rest given far
 
 pub mixed-known-from-crash : MixedKnownFromCrash
 mixed-known-from-crash w n s xs before x rest given far =

@@ -8,6 +8,7 @@ use native.Mathlib.Omega.{arith}
 use lib.ListN.{length}
 use Rattle.table.specs.Table.{live}
 use Rattle.table.proofs.Accepting.{Accepted, accepted}
+use Rattle.table.specs.declared.wiring.Wiring.{Wiring}
 use Rattle.plant.specs.Entry.{State}
 use Rattle.detection.specs.Runs.{Call, after_runs, taken_all}
 use Rattle.detection.specs.Rounds.{count_taken, cut}
@@ -22,7 +23,7 @@ use Rattle.latency.specs.Crash.{KnownFromAnyMoment}
 use Rattle.latency.proofs.Known.{Quiet, Facts, facts, known-from-now}
 
 -- from the start of a round on
-module _ (w n : ℕ) (s : State) (calls : List Call) (given : DetectionPremises w n s calls) where
+module _ (w : Wiring) (n : ℕ) (s : State) (calls : List Call) (given : DetectionPremises w n s calls) where
   chain : WiredChain w n s (taken_all s calls) (after_runs s calls)
   chain = on-wiring (chain-all n s calls given.long) given.one_wiring
 
@@ -33,7 +34,7 @@ module _ (w n : ℕ) (s : State) (calls : List Call) (given : DetectionPremises 
   inv ok = first_round w n s.table ok given.start (trusts w n s.table ok given.accurate)
 
   shown : Facts w n s.table
-  shown = facts w n s.table given.wiring given.size given.two_live
+  shown = facts w n s.table given.size given.two_live
 
   rounds-in : (k : ℕ) → k ≤ length (rounds_of s calls).closed → RoundWithin w n s.table (round_at s calls k)
   unfolding cut count_taken
@@ -70,4 +71,4 @@ known-from-any-moment w n s calls given far =
     let chain = on-wiring (chain-all n s calls ok.long) given.one_wiring in
     let plain = plain-at w n s.table ok (trusts w n s.table ok given.accurate) in
     let quiet : Quiet (taken_all s calls) = record { no_crash = given.no_crash; no_late = given.no_late } in
-    known-from-now w n s.table ok.wired ok.size given.two_live chain plain quiet (omega (arith, far))
+    known-from-now w n s.table ok.size given.two_live chain plain quiet (omega (arith, far))

@@ -15,6 +15,7 @@ use Rattle.lists.proofs.SearchLaws.{least-between, least-passes, least-before, l
 use Rattle.slots.proofs.Counts.{sum-le}
 use Rattle.table.specs.Wiring.{is_ring}
 use Rattle.table.specs.Table.{next_distance, tests_made, live}
+use Rattle.table.specs.declared.wiring.Wiring.{Wiring}
 use Rattle.detection.specs.Claim.{count_of}
 use Rattle.detection.proofs.Circle.{at_position, NextLive}
 use Rattle.detection.proofs.RingCount.{all-tests}
@@ -144,7 +145,7 @@ module _ (n : ℕ) (live live' : ℕ → Bool) (fewer : (x : ℕ) → x < n → 
       let s = same i h in rw (s.0, s.1) (fit-narrow i (next i) (made i) (fit i h (fewer i h l)))
 
 -- what bounds the tests on the ring
-abbrev pub ring-tests : (w n : ℕ) → is_ring w ≡ true → 2 ≤ n → ((T : List ℕ) → count_of w n T ≡ n) → TestsBound w n
+abbrev pub ring-tests : (w : Wiring) (n : ℕ) → is_ring w ≡ true → 2 ≤ n → ((T : List ℕ) → count_of w n T ≡ n) → TestsBound w n
 ring-tests w n ring two count = record {
   Fits = λ L t. Fitting n L (next_distance n t) (tests_made n t);
   starts = λ L t fresh i h l.

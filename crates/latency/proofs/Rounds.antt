@@ -20,6 +20,7 @@ use Rattle.table.specs.Table.{next_distance, finished, tests_made, live}
 use Rattle.table.specs.Properties.{live_count}
 use Rattle.table.specs.Rules.{not_live, some_live, round_over}
 use Rattle.table.proofs.Accepting.{Accepted}
+use Rattle.table.specs.declared.wiring.Wiring.{Wiring}
 use Rattle.plant.specs.Round.{reset_lines, after_round}
 use Rattle.plant.specs.Entry.{Entry, State, is_crash, entry_refusal, acted, after}
 use Rattle.plant.proofs.RulesKept.{accepted-kept}
@@ -40,7 +41,7 @@ use Rattle.latency.specs.Bound.{turns_per_round, RoundWithin}
 
 -- what bounds the tests that live stations have made in a round, whoever tests whom: something that holds of live set and table where a round
 -- starts, and that turns keep, and crashes
-pub record TestsBound (w n : ℕ) : Type 1 where
+pub record TestsBound (w : Wiring) (n : ℕ) : Type 1 where
   pub Fits : (ℕ → Bool) → List ℕ → Type 0
   pub starts : (L : ℕ → Bool) (t : List ℕ) → ((i : ℕ) → i < n → Reset n t i) → Fits L t
   pub turns : (L : ℕ → Bool) (t' : List ℕ) (s : State) (e : Entry) → Plain w n L s.table → TurnTaken w n L s e t' → Fits L s.table → Fits L t'
@@ -61,7 +62,7 @@ sum-lt f g n p h low less =
     omega (arith, sum-add f one n, sum-le n each, single, first)
 
 -- T has the live set
-module _ (w n : ℕ) (T : List ℕ) (two : 2 ≤ live_count n T) (B : TestsBound w n) where
+module _ (w : Wiring) (n : ℕ) (T : List ℕ) (two : 2 ≤ live_count n T) (B : TestsBound w n) where
   abbrev pub L : ℕ → Bool
   L = live n T
 

@@ -13,11 +13,11 @@ use Rattle.lists.proofs.BoolLaws.{by_bool}
 use Rattle.lists.proofs.SearchLaws.{list_of-length, list_of-at, greatest-le}
 use Rattle.lists.proofs.SumLaws.{sum_by, sum-add, sum-zero}
 use Rattle.table.specs.Sizes.{dimension, distances}
-use Rattle.table.specs.Wiring.{wiring_cube}
 use Rattle.table.specs.Table.{live}
 use Rattle.table.specs.Properties.{live_count, exact_row}
 use Rattle.table.proofs.Levels.{level-le}
 use Rattle.table.proofs.SizeLaws.{size-distances}
+use Rattle.table.specs.declared.wiring.Wiring.TheVariants.{Cube}
 use Rattle.station.specs.Tests.{unsuspected}
 use Rattle.station.specs.Rows.{mark}
 use Rattle.station.proofs.DueLaws.{unsuspected-at}
@@ -69,7 +69,7 @@ module _ (n : ℕ) (T : List ℕ) (low : n ≤ distances n) where
       let none : leads_below n L i (distances n) ≡ 0 = sum-zero (distances n) (λ m b. leads-none n L i m (rw (l, and-false))) in
       rw (alive i h ∙ l, l) (omega (arith, none)))
 
-  pub turns-by-row : turns_per_round wiring_cube n T ≡ turns_by_row n r
+  pub turns-by-row : turns_per_round Cube n T ≡ turns_by_row n r
   unfolding turns_by_row live_count
   turns-by-row =
       omega (arith, sum_by n turns-of, sum-add (λ i. leads_below n L i (distances n)) (λ i. bit (L i)) n, led-count n T low)
@@ -78,7 +78,7 @@ module _ (n : ℕ) (T : List ℕ) (low : n ≤ distances n) where
 pub figures-cover : FiguresCover
 unfolding most_until_known known_with
 figures-cover n t r j size h free same =
-    let turns : turns_per_round wiring_cube n t ≡ turns_by_row n (mark r j) =
+    let turns : turns_per_round Cube n t ≡ turns_by_row n (mark r j) =
     turns-by-row n t (size-distances n size).0 ∙ ap (turns_by_row n) same in
     let one : known_with n r j ≡ suc (worst_latency (dimension n)) * turns_by_row n (mark r j) = rw free in
     rw turns (omega (arith, greatest-le (known_with n r) n j h, one, suc-mul (worst_latency (dimension n)) (turns_by_row n (mark r j))))

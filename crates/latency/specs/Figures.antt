@@ -5,8 +5,8 @@ use Rattle.std.specs.Prelude.{◌≡◌, true, List, ℕ, suc, ◌+◌, ◌*◌,
 use Rattle.lists.specs.Search.{greatest}
 use Rattle.lists.specs.Sums.{sum_below}
 use Rattle.table.specs.Sizes.{is_size, dimension}
-use Rattle.table.specs.Wiring.{wiring_cube}
 use Rattle.table.specs.Properties.{exact_row}
+use Rattle.table.specs.declared.wiring.Wiring.TheVariants.{Cube}
 use Rattle.station.specs.Tests.{unsuspected}
 use Rattle.station.specs.Rows.{mark}
 use Rattle.slots.specs.Slots.{tested}
@@ -33,4 +33,4 @@ most_until_known n r = greatest (known_with n r) n
 abbrev pub FiguresCover : Type 0
 FiguresCover =
     (n : ℕ) (t r : List ℕ) (j : ℕ) → is_size n ≡ true → j < n → unsuspected r j ≡ true → exact_row n t ≡ mark r j
-    → turns_from_crash wiring_cube n t ≤ most_until_known n r
+    → turns_from_crash Cube n t ≤ most_until_known n r

@@ -6,7 +6,7 @@ ghost use Rattle.table.specs.Sizes.{dimension};
 ghost use Rattle.detection.specs.Claim.{worst_latency};
 ghost use Rattle.latency.specs.Figures.{turns_of, turns_by_row, known_with, most_until_known, FiguresCover};
 
-use station::rows;
+use station::{due, rows};
 use table::{Station, sizes};
 
 // What is claimed of turns from a crash on holds of these figures.
@@ -34,7 +34,7 @@ fn known_with(n: u8, row: &mut [u8], j: Station) -> u32
     ensures turns { result ≡ known_with n row.old j.0 }
     ensures row_unchanged { row.new ≡ row.old }
 {
-    if !slots::is_unsuspected(row, j) {
+    if !due::is_unsuspected(row, j) {
         return 0;
     }
     let at = j.0 as usize;
@@ -76,7 +76,7 @@ fn turns_of(n: u8, row: &[u8], i: Station) -> u32
     ensures turns { result ≡ turns_of n row.now i.0 }
     ensures upper_bound { result ≤ 256 }
 {
-    if !slots::is_unsuspected(row, i) {
+    if !due::is_unsuspected(row, i) {
         return 0;
     }
     slots::list_tests(n, row, i).len() as u32 + 1

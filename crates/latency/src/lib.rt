@@ -9,7 +9,7 @@ ghost use Rattle.latency.specs.Bound.{RoundsWithin, KnownWithin, MixedKnownWithi
 ghost use Rattle.latency.specs.Crash.{KnownFromAnyMoment, DrivesKnownFromAnyMoment, KnownFromCrash, MixedKnownFromCrash};
 
 // From the start of a round on (specs/Bound.antt).
-pub fn within()
+pub fn from_round_start()
     // Every round, the open one included, has at most the tests that the count says, and at most one turn more for each live board.
     ensures rounds_within { RoundsWithin }
     // After the worst case's rounds of so many turns each live board suspects just those that are not live.

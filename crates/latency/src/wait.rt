@@ -1,6 +1,5 @@
 // How long a dead board may go unseen, by wiring, size and table.
 ghost use Rattle.std.specs.Prelude.{◌≡◌, ◌≤◌, ◌*◌};
-ghost use Rattle.table.specs.Wiring.{wiring_number};
 ghost use Rattle.table.specs.Properties.{live_count, exact_row};
 ghost use Rattle.detection.specs.Claim.{worst_rounds};
 ghost use Rattle.latency.specs.Bound.{turns_per_round};
@@ -22,18 +21,18 @@ pub struct Wait {
     pub turns_from_crash: u32,
 }
 
-// The bounds for a table on the wiring with a number: refusals 24 and 1 to 4.
+// The bounds for a table on a wiring: refusals 1 to 4.
 #[tactic(auto, unfolding(crate::specs::Wait::wait_answer))]
-pub fn wait_of(wiring: usize, n: usize, table: &[u8]) -> Result<Wait, Refusal>
+pub fn wait_of(wiring: Wiring, n: usize, table: &[u8]) -> Result<Wait, Refusal>
     ensures { result ≡ wait_answer wiring n table.now }
 {
-    let (wiring, table) = Table::checked_by_number(wiring, n, table)?;
+    let table = Table::checked(wiring, n, table)?;
     Ok(wait_on(wiring, &table))
 }
 
 // The bounds for a table that is not refused.
 fn wait_on(wiring: Wiring, table: &Table) -> Wait
-    ensures { result ≡ wait_on (wiring_number wiring) table.now.n table.now.bytes.now }
+    ensures { result ≡ wait_on wiring table.now.n table.now.bytes.now }
 {
     let rounds = worst_rounds(wiring, table.n);
     let turns = turns_per_round(wiring, table);
@@ -47,7 +46,7 @@ fn wait_on(wiring: Wiring, table: &Table) -> Wait
 
 // The rounds of the worst case.
 fn worst_rounds(wiring: Wiring, n: u8) -> u32
-    ensures rounds { result ≡ worst_rounds (wiring_number wiring) n }
+    ensures rounds { result ≡ worst_rounds wiring n }
     ensures upper_bound { result ≤ 127 }
 {
     match wiring {
@@ -58,7 +57,7 @@ fn worst_rounds(wiring: Wiring, n: u8) -> u32
 
 // How many turns a round has at most.
 fn turns_per_round(wiring: Wiring, table: &Table) -> u32
-    ensures turns { result ≡ turns_per_round (wiring_number wiring) table.now.n table.now.bytes.now }
+    ensures turns { result ≡ turns_per_round wiring table.now.n table.now.bytes.now }
     ensures upper_bound { result ≤ 256 * table.now.n }
 {
     match wiring {

@@ -11,6 +11,7 @@ use Rattle.std.specs.List.{flat_map}
 use Rattle.lists.proofs.Writing.{sets-front}
 use Rattle.table.specs.Table.{table_length}
 use Rattle.table.specs.Rules.{round_over}
+use Rattle.table.specs.declared.wiring.Wiring.{Wiring}
 use Rattle.mender.specs.Mended.{lines_mended, mended}
 use Rattle.mender.specs.Report.{changes, change_bytes, report_of, mends}
 use Rattle.mender.proofs.Progress.{changes-few, listed-length, mended_by}
@@ -25,12 +26,12 @@ unfolding changes
 few t u = changes-few t u (length t)
 
 -- what the call leaves and answers
-pub record Done (w n : ℕ) (t r u report : List ℕ) (count : ℕ) : Type 0 where
+pub record Done (w : Wiring) (n : ℕ) (t r u report : List ℕ) (count : ℕ) : Type 0 where
   pub answer : count ≡ length (mends w n t)
   pub table : u ≡ mended w n t
   pub listed : take (4 * count) report ++ replicate (length report - 4 * count) 0 ≡ report_of (mends w n t) (length r)
 
-pub done : (w n : ℕ) (t r u report : List ℕ) (over : Bool) (count : ℕ) → length t ≡ table_length n → 4 * table_length n ≤ length r
+pub done : (w : Wiring) (n : ℕ) (t r u report : List ℕ) (over : Bool) (count : ℕ) → length t ≡ table_length n → 4 * table_length n ≤ length r
     → over ≡ round_over n (lines_mended w n t) → u ≡ mended_by w n t over → report ≡ sets r 0 (flat_map change_bytes (changes t u))
     → count ≡ length (changes t u) → Done w n t r u report count
 unfolding report_of mended

@@ -16,6 +16,7 @@ use Rattle.lists.specs.Search.{list_of}
 use Rattle.lists.proofs.SearchLaws.{list_of-at, list_of-length}
 use Rattle.table.specs.Table.{head, stride, table_length, line_start, cell, status, live, finished, rounds_ago}
 use Rattle.table.proofs.CellLaws.{line-inside}
+use Rattle.table.specs.declared.wiring.Wiring.{Wiring}
 use Rattle.mender.specs.Mended.{mended_status, keeps_pass, mended_rounds_ago, mended_suspicion, new_status, new_told_by}
 use Rattle.mender.specs.Mended.{line_byte, table_of, lines_mended, mended_byte}
 
@@ -57,7 +58,7 @@ table_of-is n f t long same =
     ap (λ (x : ℕ). get_or (table_of n f) x 0) (sym parts.0) ∙ here ∙ same (p / stride n) (p % stride n) parts.1 parts.2 ∙ at)
 
 -- a station is live after mending if it was before
-pub lines_live : (w n : ℕ) (t : List ℕ) (i : ℕ) → i < n → live n (lines_mended w n t) i ≡ live n t i
+pub lines_live : (w : Wiring) (n : ℕ) (t : List ℕ) (i : ℕ) → i < n → live n (lines_mended w n t) i ≡ live n t i
 unfolding line_byte
 lines_live w n t i h = ap (λ (x : ℕ). eqb x 0) (table_of-cell n (line_byte w n t) i 0 h (omega arith)) ∙ stays (status n t i)
   where
@@ -65,7 +66,7 @@ lines_live w n t i h = ap (λ (x : ℕ). eqb x 0) (table_of-cell n (line_byte w 
     stays s = grind (arith, nat_tests)
 
 -- it has finished its pass after mending if it had before and bytes 1 to 3 keep their rules
-pub lines_finished : (w n : ℕ) (t : List ℕ) (i : ℕ) → i < n
+pub lines_finished : (w : Wiring) (n : ℕ) (t : List ℕ) (i : ℕ) → i < n
     → eqb (finished n (lines_mended w n t) i) 1 ≡ (eqb (finished n t i) 1 && keeps_pass w n t i)
 unfolding line_byte
 lines_finished w n t i h =
@@ -76,13 +77,15 @@ lines_finished w n t i h =
     stays false f = grind (arith, nat_tests)
 
 -- a byte of the mended table that the round has no part in
-pub outside-pass : (w n : ℕ) (t : List ℕ) (over : Bool) (i c : ℕ) → (leb 1 c && leb c 3) ≡ false → mended_byte w n t over i c ≡ line_byte w n t i c
+pub outside-pass : (w : Wiring) (n : ℕ) (t : List ℕ) (over : Bool) (i c : ℕ) → (leb 1 c && leb c 3) ≡ false
+    → mended_byte w n t over i c ≡ line_byte w n t i c
 unfolding mended_byte
 outside-pass w n t true i c e = rw e refl
 outside-pass w n t false i c e = refl
 
 -- of a row
-pub row-byte : (w n : ℕ) (t : List ℕ) (over : Bool) (i k : ℕ) → mended_byte w n t over i (head + k) ≡ mended_suspicion i k (cell n t i (head + k))
+pub row-byte : (w : Wiring) (n : ℕ) (t : List ℕ) (over : Bool) (i k : ℕ)
+    → mended_byte w n t over i (head + k) ≡ mended_suspicion i k (cell n t i (head + k))
 unfolding line_byte
 row-byte w n t over i k =
     let back : head + k - head ≡ k = omega arith in
@@ -96,7 +99,7 @@ row-byte w n t over i k =
     ) refl
 
 -- bytes 0 to 5 go by bytes 0 to 5
-pub head-same : (w n : ℕ) (t t' : List ℕ) (over : Bool) (i c : ℕ) → ((b : ℕ) → b < head → cell n t i b ≡ cell n t' i b) → c < head
+pub head-same : (w : Wiring) (n : ℕ) (t t' : List ℕ) (over : Bool) (i c : ℕ) → ((b : ℕ) → b < head → cell n t i b ≡ cell n t' i b) → c < head
     → mended_byte w n t over i c ≡ mended_byte w n t' over i c
 unfolding mended_byte line_byte
 head-same w n t t' over i c same h =
@@ -111,14 +114,14 @@ head-same w n t t' over i c same h =
     ) refl
 
 -- bytes 1 to 3 as the code makes them
-pub pass-new : (w n : ℕ) (t : List ℕ) (over : Bool) (i : ℕ) (b : Bool) → b ≡ keeps_pass w n t i → (over || not b) ≡ true
+pub pass-new : (w : Wiring) (n : ℕ) (t : List ℕ) (over : Bool) (i : ℕ) (b : Bool) → b ≡ keeps_pass w n t i → (over || not b) ≡ true
     → (1 ∷ 0 ∷ 0 ∷ []) ≡ (mended_byte w n t over i 1 ∷ mended_byte w n t over i 2 ∷ mended_byte w n t over i 3 ∷ [])
 unfolding mended_byte line_byte
 pass-new w n t true i b e h = refl
 pass-new w n t false i true e h = cc
 pass-new w n t false i false e h = rw (← e) refl
 
-pub pass-old : (w n : ℕ) (t : List ℕ) (over : Bool) (i : ℕ) (b : Bool) → b ≡ keeps_pass w n t i → (over || not b) ≡ false
+pub pass-old : (w : Wiring) (n : ℕ) (t : List ℕ) (over : Bool) (i : ℕ) (b : Bool) → b ≡ keeps_pass w n t i → (over || not b) ≡ false
     → (cell n t i 1 ∷ cell n t i 2 ∷ cell n t i 3 ∷ []) ≡ (mended_byte w n t over i 1 ∷ mended_byte w n t over i 2 ∷ mended_byte w n t over i 3 ∷ [])
 unfolding mended_byte line_byte
 pass-old w n t true i b e h = cc
@@ -126,7 +129,7 @@ pass-old w n t false i true e h = rw (← e) refl
 pass-old w n t false i false e h = cc
 
 -- bytes 0 to 5
-pub head-is : (w n : ℕ) (t : List ℕ) (over : Bool) (i s by ago : ℕ) (pass : List ℕ) → s ≡ new_status n t i
+pub head-is : (w : Wiring) (n : ℕ) (t : List ℕ) (over : Bool) (i s by ago : ℕ) (pass : List ℕ) → s ≡ new_status n t i
     → pass ≡ mended_byte w n t over i 1 ∷ mended_byte w n t over i 2 ∷ mended_byte w n t over i 3 ∷ [] → by ≡ new_told_by n t i
     → ago ≡ mended_rounds_ago n i (new_status n t i) (new_told_by n t i) (rounds_ago n t i)
     → (s ∷ get_or pass 0 0 ∷ get_or pass 1 0 ∷ get_or pass 2 0 ∷ by ∷ ago ∷ []) ≡ list_of (mended_byte w n t over i) 6

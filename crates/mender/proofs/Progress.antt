@@ -26,6 +26,7 @@ use Rattle.table.specs.Sizes.{is_size}
 use Rattle.table.specs.Table.{head, stride, table_length, line_start, cell}
 use Rattle.table.specs.Rules.{suspicion_rule, row_rule}
 use Rattle.table.proofs.SizeLaws.{size-bounds}
+use Rattle.table.specs.declared.wiring.Wiring.{Wiring}
 use Rattle.mender.specs.declared.report.Change.{Change}
 use Rattle.mender.specs.Report.{differs, change_at, changes, change_bytes}
 use Rattle.mender.specs.declared.mending.Mending.{Mending}
@@ -157,7 +158,7 @@ progress-done t u r p now report count g e l =
     (g.bytes ∙ rw e (sets-all t (list_of (λ q. get_or u q 0) (length t)) (sym put) ∙ whole), rw e at g.listed, rw e at g.counted)
 
 -- the mended table, where it is known whether the round is over
-abbrev pub mended_by : ℕ → ℕ → List ℕ → Bool → List ℕ
+abbrev pub mended_by : Wiring → ℕ → List ℕ → Bool → List ℕ
 mended_by w n t over = table_of n (mended_byte w n t over)
 
 -- where the next line begins, and where the last one ends
@@ -174,11 +175,11 @@ unfolding line_start table_length
 line-last n = refl
 
 -- the mending that began as m has come to place p
-pub record Reached (w : ℕ) (over : Bool) (m now : Mending) (p : ℕ) : Type 0 where
+pub record Reached (w : Wiring) (over : Bool) (m now : Mending) (p : ℕ) : Type 0 where
   pub same : IsSameMending m now
   pub so_far : Progress m.table.now (mended_by w m.n m.table.now over) m.report.now p now.table.now now.report.now now.changes
 
-pub reached-start : (w : ℕ) (over : Bool) (m : Mending) → m.changes ≡ 0 → Reached w over m m (line_start m.n 0)
+pub reached-start : (w : Wiring) (over : Bool) (m : Mending) → m.changes ≡ 0 → Reached w over m m (line_start m.n 0)
 reached-start w over m none =
     record {
       same = record { size = refl; table_reference = refl; report_reference = refl };
@@ -186,30 +187,30 @@ reached-start w over m none =
     }
 
 -- the same place by another name
-pub reached-at : {w p q : ℕ} {over : Bool} {m now : Mending} → Reached w over m now p → p ≡ q → Reached w over m now q
+pub reached-at : {w : Wiring} {p q : ℕ} {over : Bool} {m now : Mending} → Reached w over m now p → p ≡ q → Reached w over m now q
 reached-at {w} {p} {q} {over} {m} {now} g e = subst (λ (x : ℕ). Reached w over m now x) e g
 
 -- a place of line i is one of the table
-pub reached-inside : {w p : ℕ} {over : Bool} {m now : Mending} (i c at : ℕ) → Reached w over m now p → i < m.n → c < stride m.n
+pub reached-inside : {w : Wiring} {p : ℕ} {over : Bool} {m now : Mending} (i c at : ℕ) → Reached w over m now p → i < m.n → c < stride m.n
     → at ≡ line_start m.n i + c → at < length now.table.now
 reached-inside {w} {p} {over} {m} {now} i c at g h hc a =
     let long : length now.table.now ≡ table_length m.n = now.fits ∙ ap table_length g.same.size in
     omega (arith, inside m.n i c h hc)
 
 -- as many changes as places at most
-pub reached-few : {w p : ℕ} {over : Bool} {m now : Mending} → Reached w over m now p → now.changes ≤ p
+pub reached-few : {w : Wiring} {p : ℕ} {over : Bool} {m now : Mending} → Reached w over m now p → now.changes ≤ p
 reached-few {w} {p} {over} {m} {now} g =
     omega (arith, g.so_far.counted, changes-few m.table.now (mended_by w m.n m.table.now over) p)
 
 -- a byte of a line that the loops have not reached
-reached-ahead : {w p : ℕ} {over : Bool} {m now : Mending} (i c : ℕ) → Reached w over m now p → p ≤ line_start m.n i + c
+reached-ahead : {w : Wiring} {p : ℕ} {over : Bool} {m now : Mending} (i c : ℕ) → Reached w over m now p → p ≤ line_start m.n i + c
     → cell m.n now.table.now i c ≡ cell m.n m.table.now i c
 unfolding cell
 reached-ahead {w} {p} {over} {m} {now} i c g h =
     progress-ahead m.table.now (mended_by w m.n m.table.now over) m.report.now p _ _ _ (line_start m.n i + c) g.so_far h
 
 -- the mended byte is put at its place
-pub reached-next : {w p at byte : ℕ} {over : Bool} {m now next : Mending} (q : ℕ) → Reached w over m now p → at ≡ p → q ≡ p + 1
+pub reached-next : {w : Wiring} {p at byte : ℕ} {over : Bool} {m now next : Mending} (q : ℕ) → Reached w over m now p → at ≡ p → q ≡ p + 1
     → byte ≡ get_or (mended_by w m.n m.table.now over) p 0 → IsSameMending now next → next.table.now ≡ set now.table.now at byte
     → next.report.now ≡ with_change now.report.now now.changes (record { offset = at; before = get_or now.table.now at 0; after = byte })
     → next.changes ≡ count_with now.changes (record { offset = at; before = get_or now.table.now at 0; after = byte })
@@ -225,7 +226,7 @@ reached-next {w} {p} {at} {byte} {over} {m} {now} {next} q g a n b s t l c =
     }
 
 -- bytes 0 to 5 of line i, made when the loops came to the line
-pub head-put : {w : ℕ} {over : Bool} {m now : Mending} (i c : ℕ) (read : Table) (made : List ℕ) → Reached w over m now (line_start m.n i)
+pub head-put : {w : Wiring} {over : Bool} {m now : Mending} (i c : ℕ) (read : Table) (made : List ℕ) → Reached w over m now (line_start m.n i)
     → i < m.n → c < head → read.n ≡ now.n → read.bytes.now ≡ now.table.now → made ≡ list_of (mended_byte w read.n read.bytes.now over i) 6
     → get_or made c 0 ≡ get_or (mended_by w m.n m.table.now over) (line_start m.n i + c) 0
 head-put {w} {over} {m} {now} i c read made g h hc e d b =
@@ -234,7 +235,7 @@ head-put {w} {over} {m} {now} i c read made g h hc e d b =
     ∙ sym (table_of-at m.n (mended_byte w m.n m.table.now over) i c h (omega arith))
 
 -- a byte of the row of line i that the loops have not reached
-pub row-put : {w p : ℕ} {over : Bool} {m now : Mending} (i k at : ℕ) → Reached w over m now p → p ≤ at → i < m.n → k < m.n
+pub row-put : {w : Wiring} {p : ℕ} {over : Bool} {m now : Mending} (i k at : ℕ) → Reached w over m now p → p ≤ at → i < m.n → k < m.n
     → at ≡ line_start m.n i + (head + k)
     → mended_suspicion i k (get_or now.table.now at 0) ≡ get_or (mended_by w m.n m.table.now over) (line_start m.n i + (head + k)) 0
 unfolding cell
@@ -243,7 +244,7 @@ row-put {w} {p} {over} {m} {now} i k at g l h hk a =
     ∙ sym (row-byte w m.n m.table.now over i k) ∙ sym (table_of-at m.n (mended_byte w m.n m.table.now over) i (head + k) h (omega arith))
 
 -- a row that keeps its rules stays
-pub row-skip : {w : ℕ} {over : Bool} {m now : Mending} (i : ℕ) (read : Table) → Reached w over m now (line_start m.n i + head) → i < m.n
+pub row-skip : {w : Wiring} {over : Bool} {m now : Mending} (i : ℕ) (read : Table) → Reached w over m now (line_start m.n i + head) → i < m.n
     → read.n ≡ now.n → read.bytes.now ≡ now.table.now → row_rule read.n read.bytes.now i ≡ true
     → Reached w over m now (line_start m.n (i + 1))
 unfolding row_rule cell
@@ -267,7 +268,7 @@ row-skip {w} {over} {m} {now} i read g h e d kept =
     reached-at (record { same = g.same; so_far = end }) (omega (arith, line-next m.n i))
 
 -- after the last line
-pub all-done : {w p : ℕ} {over : Bool} {m now : Mending} → Reached w over m now p → p ≡ line_start m.n m.n
+pub all-done : {w : Wiring} {p : ℕ} {over : Bool} {m now : Mending} → Reached w over m now p → p ≡ line_start m.n m.n
     → let u = mended_by w m.n m.table.now over in
     (now.table.now ≡ u) × (now.report.now ≡ sets m.report.now 0 (flat_map change_bytes (changes m.table.now u)))
     × (now.changes ≡ length (changes m.table.now u))

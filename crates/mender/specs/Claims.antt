@@ -3,30 +3,30 @@
 use Rattle.std.specs.Prelude.{ℕ, ◌*◌, ◌≡◌, ◌≢◌, ◌<◌, ◌≤◌, true, List, [], length, All, Ok, slice_index}
 use Rattle.table.specs.Sizes.{is_size}
 use Rattle.table.specs.Table.{table_length, status, suspects}
-use Rattle.table.specs.Wiring.{wiring_check}
-use Rattle.table.specs.Rules.{numbered_table_check}
+use Rattle.table.specs.Rules.{table_check}
+use Rattle.table.specs.declared.wiring.Wiring.{Wiring}
 use Rattle.mender.specs.declared.report.Change.{Change}
 use Rattle.mender.specs.Mended.{mended}
 use Rattle.mender.specs.Report.{mends}
 
--- what holds of all tables of n stations: w is a wiring, n a size, and t has n(n + 6) bytes
-abbrev pub OfEachTable : (ℕ → ℕ → List ℕ → Type 0) → Type 0
-OfEachTable P = (w n : ℕ) (t : List ℕ) → wiring_check w ≡ Ok tt → is_size n ≡ true → length t ≡ table_length n → P w n t
+-- what holds of all tables of n stations on each wiring: n is a size, and t has n(n + 6) bytes
+abbrev pub OfEachTable : (Wiring → ℕ → List ℕ → Type 0) → Type 0
+OfEachTable P = (w : Wiring) (n : ℕ) (t : List ℕ) → is_size n ≡ true → length t ≡ table_length n → P w n t
 
--- Rule Mended passes: refusals 24 and 1 to 4 let the mended table through
+-- Rule Mended passes: refusals 1 to 4 let the mended table through
 abbrev pub MendedPasses : Type 0
-MendedPasses = OfEachTable (λ w n t. numbered_table_check w n (mended w n t) ≡ Ok tt)
+MendedPasses = OfEachTable (λ w n t. table_check w n (mended w n t) ≡ Ok tt)
 
 -- Rule Mended once: a mended table is not changed again, and nothing is listed
 abbrev pub MendedOnce : Type 0
 MendedOnce = OfEachTable (λ w n t. (mended w n (mended w n t) ≡ mended w n t) × (mends w n (mended w n t) ≡ []))
 
--- Rule Good table stays: a table that refusals 24 and 1 to 4 let through is not changed, and nothing is listed
+-- Rule Good table stays: a table that refusals 1 to 4 let through is not changed, and nothing is listed
 abbrev pub GoodTableStays : Type 0
-GoodTableStays = (w n : ℕ) (t : List ℕ) → numbered_table_check w n t ≡ Ok tt → (mended w n t ≡ t) × (mends w n t ≡ [])
+GoodTableStays = (w : Wiring) (n : ℕ) (t : List ℕ) → table_check w n t ≡ Ok tt → (mended w n t ≡ t) × (mends w n t ≡ [])
 
 -- a listed change: there the byte was the old one, is the new one, and these two differ
-abbrev pub IsTrueChange : ℕ → ℕ → List ℕ → Change → Type 0
+abbrev pub IsTrueChange : Wiring → ℕ → List ℕ → Change → Type 0
 IsTrueChange w n t c = (slice_index t c.offset ≡ c.before) × (slice_index (mended w n t) c.offset ≡ c.after) × (c.before ≢ c.after)
 
 -- Rule Listed is true

@@ -1,4 +1,4 @@
--- The mended table: what each byte of a line becomes, and then, if the round would be over, bytes 1 to 3 of all lines. w is the wiring's number.
+-- The mended table: what each byte of a line becomes, and then, if the round would be over, bytes 1 to 3 of all lines. w is the wiring.
 -- Assumes nothing.
 use Rattle.std.specs.Prelude.{ℕ, ◌/◌, ◌%◌, ◌-◌, Bool, ◌&&◌, ◌||◌, List, if◌then◌else◌, ◌==◌, nat_lt, nat_le}
 use Rattle.lists.specs.Search.{list_of}
@@ -7,6 +7,7 @@ use Rattle.table.specs.Table.{status_column, next_column, tests_column, told_by_
 use Rattle.table.specs.Table.{status, next_distance, finished, tests_made, told_by, rounds_ago}
 use Rattle.table.specs.Wiring.{end_distance}
 use Rattle.table.specs.Rules.{status_rule, pass_rule, exit_rule, round_over}
+use Rattle.table.specs.declared.wiring.Wiring.{Wiring}
 
 -- Rule Mended status: a status above 3 becomes 1
 abbrev pub mended_status : ℕ → ℕ
@@ -17,11 +18,11 @@ abbrev pub start_byte : ℕ → ℕ
 start_byte c = if c == next_column then 1 else 0
 
 -- bytes 1 to 3 of line i keep their rules
-abbrev pub keeps_pass : ℕ → ℕ → List ℕ → ℕ → Bool
+abbrev pub keeps_pass : Wiring → ℕ → List ℕ → ℕ → Bool
 keeps_pass w n t i = pass_rule (end_distance w n) (next_distance n t i) (finished n t i) (tests_made n t i)
 
 -- Rule Mended pass, of byte c: if bytes 1 to 3 of the line break a rule, they become 1, 0, 0
-abbrev pub mended_pass : ℕ → ℕ → List ℕ → ℕ → ℕ → ℕ
+abbrev pub mended_pass : Wiring → ℕ → List ℕ → ℕ → ℕ → ℕ
 mended_pass w n t i c = if keeps_pass w n t i then cell n t i c else start_byte c
 
 -- Rule Mended told by: if byte 4 is wrong for the line's status, it becomes 254 for status 2, else 255. Byte 5 is looked at by itself: with 0 it
@@ -46,7 +47,7 @@ abbrev pub new_told_by : ℕ → List ℕ → ℕ → ℕ
 new_told_by n t i = mended_told_by n i (new_status n t i) (told_by n t i)
 
 -- Rule Mended line: byte c of line i. Bytes 4 and 5 go by the mended status
-unfoldable pub line_byte : ℕ → ℕ → List ℕ → ℕ → ℕ → ℕ
+unfoldable pub line_byte : Wiring → ℕ → List ℕ → ℕ → ℕ → ℕ
 line_byte w n t i c =
     if c == status_column then new_status n t i
     else (if nat_le c tests_column then mended_pass w n t i c
@@ -59,13 +60,13 @@ unfoldable pub table_of : ℕ → (ℕ → ℕ → ℕ) → List ℕ
 table_of n f = list_of (λ p. f (p / stride n) (p % stride n)) (table_length n)
 
 -- the table with each line mended
-abbrev pub lines_mended : ℕ → ℕ → List ℕ → List ℕ
+abbrev pub lines_mended : Wiring → ℕ → List ℕ → List ℕ
 lines_mended w n t = table_of n (line_byte w n t)
 
 -- Rule Mended round, of byte c of line i: if the round is over, bytes 1 to 3 of all lines become 1, 0, 0
-unfoldable pub mended_byte : ℕ → ℕ → List ℕ → Bool → ℕ → ℕ → ℕ
+unfoldable pub mended_byte : Wiring → ℕ → List ℕ → Bool → ℕ → ℕ → ℕ
 mended_byte w n t over i c = if over && nat_le next_column c && nat_le c tests_column then start_byte c else line_byte w n t i c
 
 -- Rule Mended table: each line mended; then, if with these lines the round is over (refusal 4 would apply), bytes 1 to 3 of all
-unfoldable pub mended : ℕ → ℕ → List ℕ → List ℕ
+unfoldable pub mended : Wiring → ℕ → List ℕ → List ℕ
 mended w n t = table_of n (mended_byte w n t (round_over n (lines_mended w n t)))

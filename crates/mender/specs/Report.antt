@@ -7,7 +7,8 @@ use Rattle.lists.specs.declared.refusal.Refusal.{Refusal}
 use Rattle.lists.specs.declared.refusal.Refusal.TheVariants.{ReportTooShort}
 use Rattle.lists.specs.Refusal.{Check, ensure, ◌and◌, unless_refused}
 use Rattle.table.specs.Table.{table_length}
-use Rattle.table.specs.Rules.{numbered_shape_check}
+use Rattle.table.specs.Rules.{shape_check}
+use Rattle.table.specs.declared.wiring.Wiring.{Wiring}
 use Rattle.mender.specs.declared.report.Change.{Change}
 use Rattle.mender.specs.Mended.{mended}
 
@@ -32,22 +33,22 @@ unfoldable pub report_of : List Change → ℕ → List ℕ
 report_of cs len = let listed = flat_map change_bytes cs in listed ++ replicate (len - length listed) 0
 
 -- what mending changes in the table
-abbrev pub mends : ℕ → ℕ → List ℕ → List Change
+abbrev pub mends : Wiring → ℕ → List ℕ → List Change
 mends w n t = changes t (mended w n t)
 
--- Rule Mend, its refusals: 24, 1, 2, then 23: the buffer for the report has fewer than 4n(n + 6) bytes
-unfoldable pub mend_check : ℕ → ℕ → ℕ → ℕ → Check
-mend_check w n len room = numbered_shape_check w n len and ensure (nat_le (4 * table_length n) room) ReportTooShort
+-- Rule Mend, its refusals: 1, 2, then 23: the buffer for the report has fewer than 4n(n + 6) bytes
+unfoldable pub mend_check : Wiring → ℕ → ℕ → ℕ → Check
+mend_check w n len room = shape_check n len and ensure (nat_le (4 * table_length n) room) ReportTooShort
 
 -- Rule Mend: the number of changes
-unfoldable pub mend : ℕ → ℕ → List ℕ → ℕ → Result ℕ Refusal
+unfoldable pub mend : Wiring → ℕ → List ℕ → ℕ → Result ℕ Refusal
 mend w n t room = mend_check w n (length t) room and Ok (length (mends w n t))
 
 -- Rule Mend: the table after the call
-unfoldable pub table_after : ℕ → ℕ → List ℕ → ℕ → List ℕ
+unfoldable pub table_after : Wiring → ℕ → List ℕ → ℕ → List ℕ
 table_after w n t room = unless_refused (mend_check w n (length t) room) t (mended w n t)
 
 -- Rule Mend: the report after the call
-unfoldable pub report_after : ℕ → ℕ → List ℕ → List ℕ → List ℕ
+unfoldable pub report_after : Wiring → ℕ → List ℕ → List ℕ → List ℕ
 report_after w n t report =
     unless_refused (mend_check w n (length t) (length report)) report (report_of (mends w n t) (length report))

@@ -5,11 +5,11 @@ ghost use Rattle.mender.specs.Claims.{NoSuspicionInvented};
 
 // Of tables and lists of changes (specs/Claims.antt).
 pub fn mending()
-    // Refusals 24 and 1 to 4 let a mended table through.
+    // Refusals 1 to 4 let a mended table through.
     ensures mended_passes { MendedPasses }
     // Mending a mended table changes and lists nothing.
     ensures mended_once { MendedOnce }
-    // Mending a table that refusals 24 and 1 to 4 let through changes and lists nothing.
+    // Mending a table that refusals 1 to 4 let through changes and lists nothing.
     ensures good_table_stays { GoodTableStays }
     // Each listed byte was the old one and is the new one.
     ensures listed_is_true { ListedIsTrue }

@@ -11,7 +11,6 @@ pub mod report;
 ghost use Rattle.std.specs.Prelude.{◌≡◌, ◌*◌, ◌≤◌, true, length};
 ghost use Rattle.table.specs.Sizes.{is_size};
 ghost use Rattle.table.specs.Table.{table_length};
-ghost use Rattle.table.specs.Wiring.{wiring_number};
 ghost use Rattle.mender.specs.Mended.{mended};
 ghost use Rattle.mender.specs.Report.{mends, report_of, mend, table_after, report_after};
 
@@ -20,14 +19,13 @@ use lists::refusal::Refusal;
 use table::lent::Table;
 use table::wiring::Wiring;
 
-// Mends the table, lists the changes in the report, and answers how many they are: refusals 24, 1, 2 and 23.
-#[tactic(auto, using(table::proofs::WiringLaws::wiring_ok, table::proofs::WiringLaws::wiring_err), unfolding(crate::specs::Report::mend, crate::specs::Report::mend_check, crate::specs::Report::table_after, crate::specs::Report::report_after))]
-pub fn mend(wiring: usize, n: usize, table: &mut [u8], report: &mut [u8]) -> Result<usize, Refusal>
+// Mends the table, lists the changes in the report, and answers how many they are: refusals 1, 2 and 23.
+#[tactic(auto, unfolding(crate::specs::Report::mend, crate::specs::Report::mend_check, crate::specs::Report::table_after, crate::specs::Report::report_after))]
+pub fn mend(wiring: Wiring, n: usize, table: &mut [u8], report: &mut [u8]) -> Result<usize, Refusal>
     ensures number_of_changes { result ≡ mend wiring n table.old (length report.old) }
     ensures mended_table { table.new ≡ table_after wiring n table.old (length report.old) }
     ensures listed_changes { report.new ≡ report_after wiring n table.old report.old }
 {
-    let wiring = Wiring::try_from(wiring)?;
     let lent = Table::of(n, table)?;
     if report.len() / 4 < lent.bytes.len() {
         return Err(Refusal::ReportTooShort);
@@ -41,9 +39,9 @@ fn mend_checked(wiring: Wiring, n: u8, table: &mut [u8], report: &mut [u8]) -> u
     requires sized { is_size n ≡ true }
     requires fits { length table.old ≡ table_length n }
     requires room { 4 * table_length n ≤ length report.old }
-    ensures number_of_changes { result ≡ length (mends (wiring_number wiring) n table.old) }
-    ensures mended_table { table.new ≡ mended (wiring_number wiring) n table.old }
-    ensures listed_changes { let changes = mends (wiring_number wiring) n table.old in
+    ensures number_of_changes { result ≡ length (mends wiring n table.old) }
+    ensures mended_table { table.new ≡ mended wiring n table.old }
+    ensures listed_changes { let changes = mends wiring n table.old in
         report.new ≡ report_of changes (length report.old) }
 {
     let over = lines::is_over(wiring, &Table { n, bytes: table });

@@ -2,7 +2,6 @@
 ghost use Rattle.std.specs.Prelude.{◌≡◌, ◌<◌, ◌∷◌, []};
 ghost use Rattle.lists.specs.Search.{list_of};
 ghost use Rattle.table.specs.Status.{status_byte};
-ghost use Rattle.table.specs.Wiring.{wiring_number};
 ghost use Rattle.table.specs.Rules.{finished_if_live, round_over};
 ghost use Rattle.mender.specs.Mended.{mended_status, keeps_pass, mended_told_by, mended_rounds_ago, mended_suspicion, lines_mended, mended_byte};
 
@@ -15,7 +14,7 @@ use table::{Station, cells, rules};
 #[tactic(auto, using(lists::proofs::Loops::loops, table::proofs::Accepting::rounds))]
 pub(crate) fn is_over(wiring: Wiring, table: &Table) -> bool
     ensures { let n = table.now.n in
-        result ≡ round_over n (lines_mended (wiring_number wiring) n table.now.bytes.now) }
+        result ≡ round_over n (lines_mended wiring n table.now.bytes.now) }
 {
     let mut some = false;
     for i in 0..table.n {
@@ -31,7 +30,7 @@ pub(crate) fn is_over(wiring: Wiring, table: &Table) -> bool
 fn finished_if_live(wiring: Wiring, table: &Table, i: Station) -> bool
     requires { i.0 < table.now.n }
     ensures { let n = table.now.n in
-        result ≡ finished_if_live n (lines_mended (wiring_number wiring) n table.now.bytes.now) i.0 }
+        result ≡ finished_if_live n (lines_mended wiring n table.now.bytes.now) i.0 }
 {
     !table.is_live(i) | (table.is_finished(i) & keeps_pass(wiring, table, i))
 }
@@ -39,7 +38,7 @@ fn finished_if_live(wiring: Wiring, table: &Table, i: Station) -> bool
 // Whether bytes 1 to 3 of line i keep their rules.
 fn keeps_pass(wiring: Wiring, table: &Table, i: Station) -> bool
     requires { i.0 < table.now.n }
-    ensures { result ≡ keeps_pass (wiring_number wiring) table.now.n table.now.bytes.now i.0 }
+    ensures { result ≡ keeps_pass wiring table.now.n table.now.bytes.now i.0 }
 {
     let next = table.get(i, cells::NEXT);
     let finished = table.get(i, cells::FINISHED);
@@ -50,8 +49,7 @@ fn keeps_pass(wiring: Wiring, table: &Table, i: Station) -> bool
 // Bytes 0 to 5 of line i, mended.
 pub(crate) fn mended_head(wiring: Wiring, table: &Table, i: Station, over: bool) -> [u8; 6]
     requires { i.0 < table.now.n }
-    ensures { let w = wiring_number wiring in
-        result ≡ list_of (mended_byte w table.now.n table.now.bytes.now over i.0) 6 }
+    ensures { result ≡ list_of (mended_byte wiring table.now.n table.now.bytes.now over i.0) 6 }
 {
     let status = mended_status(table.get(i, cells::STATUS));
     let by = mended_told_by(table.n, i, status, table.get(i, cells::TOLD_BY));
@@ -63,7 +61,7 @@ pub(crate) fn mended_head(wiring: Wiring, table: &Table, i: Station, over: bool)
 // Bytes 1 to 3 of line i, mended: 1, 0, 0 if the round is over or they break a rule.
 fn mended_pass(wiring: Wiring, table: &Table, i: Station, over: bool) -> [u8; 3]
     requires { i.0 < table.now.n }
-    ensures { let byte = mended_byte (wiring_number wiring) table.now.n table.now.bytes.now over i.0 in
+    ensures { let byte = mended_byte wiring table.now.n table.now.bytes.now over i.0 in
         result ≡ byte 1 ∷ byte 2 ∷ byte 3 ∷ [] }
 {
     if over | !keeps_pass(wiring, table, i) {

@@ -25,7 +25,6 @@ pub(crate) struct Mending<'a> {
 impl<'a> Mending<'a> {
     ghost use Rattle.std.specs.Prelude.{◌≡◌, ◌+◌, ◌-◌, ◌*◌, ◌<◌, ◌≤◌, ◌++◌, length, slice_index, flat_map, take, replicate, set};
     ghost use Rattle.std.proofs.lemmas.List.Edits.{sets};
-    ghost use Rattle.table.specs.Wiring.{wiring_number};
     ghost use Rattle.mender.specs.Mended.{table_of, mended_byte};
     ghost use Rattle.mender.specs.Report.{change_bytes, changes};
     ghost use Rattle.mender.specs.Mending.{IsSameMending, with_change, count_with};
@@ -80,7 +79,7 @@ impl<'a> Mending<'a> {
         requires { self.old.changes ≡ 0 }
         ensures same_mending { IsSameMending self.old self.new }
         ensures bytes_mended { self.new.table.now
-            ≡ table_of self.old.n (mended_byte (wiring_number wiring) self.old.n self.old.table.now over) }
+            ≡ table_of self.old.n (mended_byte wiring self.old.n self.old.table.now over) }
         ensures changes_listed { let listed = changes self.old.table.now self.new.table.now in
             self.new.report.now ≡ sets self.old.report.now 0 (flat_map change_bytes listed) }
         ensures changes_counted { self.new.changes

@@ -14,10 +14,11 @@ use Rattle.table.specs.Table.{table_length, next_distance, row}
 use Rattle.station.specs.Tests.{due}
 use Rattle.lists.proofs.SearchLaws.{least-between, least-passes, least-before}
 use Rattle.table.proofs.CellLaws.{row-length}
+use Rattle.table.specs.declared.wiring.Wiring.{Wiring}
 use Rattle.station.proofs.WiredLaws.{cube-next_due, ring-next_due, station-present}
 use Rattle.plant.specs.Turn.{next_test, makes_test}
 
-module _ (w n : ℕ) (t : List ℕ) (i : ℕ) where
+module _ (w : Wiring) (n : ℕ) (t : List ℕ) (i : ℕ) where
   -- on the cube it is the least due distance, on the ring the next one
   pub cube-next : is_ring w ≡ false → next_test w n t i ≡ least (due (row n t i) i) (end_distance w n - next_distance n t i) (next_distance n t i)
   unfolding next_test

@@ -14,6 +14,7 @@ use Rattle.table.proofs.CellLaws.{start-pass, cell_same, cell_other, set_cell-le
 use Rattle.table.specs.Rules.{exit_rule}
 use Rattle.lists.specs.Steps.{after_steps}
 use Rattle.lists.proofs.BoolLaws.{by_bool}
+use Rattle.table.specs.declared.wiring.Wiring.{Wiring}
 use Rattle.plant.specs.Round.{rounds_after, reset_line, reset_lines}
 use Rattle.plant.proofs.StepLines.{Lines}
 
@@ -140,7 +141,7 @@ unfolding exit_rule rounds_after
 after-exit n t k e = by_bool (live n t k) (λ f. rw f (rw f at e)) (λ f. rw f (rw f at e))
 
 -- a closing keeps the line rules
-pub reset-lines : (w n : ℕ) (t : List ℕ) → Lines w n t → Lines w n (reset_lines n t)
+pub reset-lines : (w : Wiring) (n : ℕ) (t : List ℕ) → Lines w n t → Lines w n (reset_lines n t)
 reset-lines w n t lines = (
   reset-length n t ∙ lines.0,
   λ k h.

@@ -10,13 +10,14 @@ use lib.Dec.{eqb}
 use lib.ListN.{length}
 use Rattle.lists.specs.Search.{every}
 use Rattle.table.specs.Table.{table_length, finished, live}
-use Rattle.table.specs.Rules.{wired_line_rules, not_live, some_live, finished_if_live, live_finished, numbered_table_refusal, round_over}
+use Rattle.table.specs.Rules.{line_rules, not_live, some_live, finished_if_live, live_finished, table_refusal, round_over}
 use Rattle.lists.proofs.BoolLaws.{neither}
 use Rattle.lists.proofs.SearchLaws.{both, every-at, every-all}
 use Rattle.table.proofs.Accepting.{Accepted, accepted}
 use Rattle.std.specs.Prelude.{Ok}
 use Rattle.lists.proofs.RefusalLaws.{check_zero, ensure_ok, and_ok}
 use Rattle.table.proofs.CellLaws.{Line, line-holds, accepted-line}
+use Rattle.table.specs.declared.wiring.Wiring.{Wiring}
 use Rattle.plant.specs.Turn.{turn, crash}
 use Rattle.plant.specs.Round.{reset_lines, after_round}
 use Rattle.plant.specs.Entry.{Entry, State, tally_top, is_crash, entry_check, entry_refusal, acted, after, sheet_line}
@@ -54,14 +55,13 @@ entry_ok n s e x z =
       is_live = ensure_ok _ _ _ d.0;
       unfinished = λ k f.
           let z : true ≡ false = rw (ne_eqb e.kind 3 k, eq-eqb (finished n s.table e.station) 1 f) at last in
-          let z : ◌≡◌ {A = ℕ} 0 1 = cc in
-          omega arith;
+          cc;
     }
 
 pub entry-facts : (n : ℕ) (s : State) (e : Entry) → entry_refusal n s e ≡ 0 → Takes n s e
 entry-facts n s e z = entry_ok n s e _ (check_zero _ z)
 
-pub acted-lines : (w n : ℕ) (s : State) (e : Entry) → Accepted w n s.table → entry_refusal n s e ≡ 0
+pub acted-lines : (w : Wiring) (n : ℕ) (s : State) (e : Entry) → Accepted w n s.table → entry_refusal n s e ≡ 0
     → (length (acted w n s.table e) ≡ table_length n) × ((i : ℕ) → i < n → Line w n (acted w n s.table e) i)
 unfolding acted crash
 acted-lines w n s e a z = pick (is_crash e) refl
@@ -89,7 +89,7 @@ unfinished-open n t zeros = pick (every (finished_if_live n t) n) refl
         rw none
     pick false e = and-false (not (every (not_live n t) n))
 
-pub accepted-kept : (w n : ℕ) (s : State) (e : Entry) → Accepted w n s.table → entry_refusal n s e ≡ 0 → Accepted w n (after w n s e).table
+pub accepted-kept : (w : Wiring) (n : ℕ) (s : State) (e : Entry) → Accepted w n s.table → entry_refusal n s e ≡ 0 → Accepted w n (after w n s e).table
 unfolding after after_round
 accepted-kept w n s e a z = pick (round_over n t) refl
   where
@@ -102,10 +102,9 @@ accepted-kept w n s e a z = pick (round_over n t) refl
     make : (u : List ℕ) → Lines w n u → (some_live n u && live_finished n u) ≡ false → Accepted w n u
     make u l open-still =
         record {
-          wired = a.wired;
           size = a.size;
           long = l.0;
-          lines = every-all (wired_line_rules w n u) n (λ i h. line-holds w n u i (l.1 i h));
+          lines = every-all (line_rules w n u) n (λ i h. line-holds w n u i (l.1 i h));
           unclosed = open-still;
         }
 
@@ -114,14 +113,15 @@ accepted-kept w n s e a z = pick (round_over n t) refl
         make (reset_lines n t) (reset-lines w n t lines) (unfinished-open n (reset_lines n t) (λ i h. (reset-cells n t lines.0 i h).unfinished))
     pick false c = make t lines c
 
--- rule Empty schedule: on a wiring and a table that refusals 24 and 1 to 4 let through it is accepted and changes nothing. An end in itself
-pub empty-run : (w n : ℕ) (s : State) → numbered_table_refusal w n s.table ≡ 0
+-- rule Empty schedule: on a wiring and a table that refusals 1 to 4 let through it is accepted and changes nothing. An end in itself
+pub empty-run : (w : Wiring) (n : ℕ) (s : State) → table_refusal w n s.table ≡ 0
     → run w n s [] [] ≡ record { number = 0; taken = 0; state = s; sheet = [] }
 unfolding run start_check go_on entries
 empty-run w n s z = rw (check_zero _ z)
 
 -- the rest of a run
-accepted-on : (w n k : ℕ) (s : State) (sheet : List ℕ) (es : List Entry) → Accepted w n s.table → Accepted w n (go_on w n k s sheet es).state.table
+accepted-on : (w : Wiring) (n k : ℕ) (s : State) (sheet : List ℕ) (es : List Entry) → Accepted w n s.table
+    → Accepted w n (go_on w n k s sheet es).state.table
 unfolding go_on
 accepted-on w n k s sheet [] a = a
 accepted-on w n k s sheet (e ∷ es) a =
@@ -136,7 +136,7 @@ accepted-on w n k s sheet (e ∷ es) a =
     pick true c next = next (eqb-true (entry_refusal n s e) 0 c)
     pick false c next = a
 
-accepted-run : (w n : ℕ) (s : State) (schedule sheet : List ℕ) → Accepted w n s.table → Accepted w n (run w n s schedule sheet).state.table
+accepted-run : (w : Wiring) (n : ℕ) (s : State) (schedule sheet : List ℕ) → Accepted w n s.table → Accepted w n (run w n s schedule sheet).state.table
 unfolding run
 accepted-run w n s schedule sheet a = pick (eqb (start_refusal w n s.table (length schedule) (length sheet)) 0)
   where
@@ -149,7 +149,7 @@ accepted-run w n s schedule sheet a = pick (eqb (start_refusal w n s.table (leng
     pick true = accepted-on w n 0 s sheet (entries schedule) a
     pick false = a
 
--- a table that refusals 24 and 1 to 4 let through is let through after every run, an end in itself
-pub run-keeps-rules : (w n : ℕ) (s : State) (schedule sheet : List ℕ)
-    → numbered_table_refusal w n s.table ≡ 0 → numbered_table_refusal w n (run w n s schedule sheet).state.table ≡ 0
+-- a table that refusals 1 to 4 let through is let through after every run, an end in itself
+pub run-keeps-rules : (w : Wiring) (n : ℕ) (s : State) (schedule sheet : List ℕ)
+    → table_refusal w n s.table ≡ 0 → table_refusal w n (run w n s schedule sheet).state.table ≡ 0
 run-keeps-rules w n s schedule sheet z = accepted-number w n _ (accepted-run w n s schedule sheet (accepted w n s.table z))

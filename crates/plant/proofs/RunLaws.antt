@@ -10,7 +10,7 @@ use borrow.Author.Tests.{eqb-true, eqb-false, eq-eqb, ne_eqb, not-true}
 use lib.ListN.{length, get_or, take, drop, drop_of_length-le}
 use lib.Seq.{drop-drop, sets-eq}
 use Rattle.station.specs.Wired.{wired_station}
-use Rattle.table.specs.Rules.{shape_check, table_check_on, numbered_table_refusal}
+use Rattle.table.specs.Rules.{shape_check, table_check, table_refusal}
 use Rattle.table.specs.Table.{table_length}
 use Rattle.lists.proofs.BoolLaws.{choice}
 use Rattle.table.proofs.Accepting.{Accepted, table_ok}
@@ -19,14 +19,15 @@ use Rattle.std.specs.Simd.{first_chunks}
 use Rattle.lists.specs.declared.refusal.Refusal.{Refusal}
 use Rattle.lists.specs.Refusal.{number_of}
 use Rattle.lists.proofs.RefusalLaws.{number_nonzero, check_zero, ensure_ok, and_ok}
+use Rattle.table.specs.declared.wiring.Wiring.{Wiring}
 use Rattle.plant.specs.Turn.{replies, is_told, reply_outcome, test_outcome, makes_test, next_test, turn_outcome}
 use Rattle.plant.specs.Entry.{Entry, State, entry_of, is_crash, is_test, entry_check, entry_refusal, after, shows_test, outcome_of, sheet_line}
 use Rattle.plant.specs.Run.{RunResult, entries, write_line, go_on, start_check, start_refusal, run}
 
 -- a table that obeys the rules gets no refusal
-pub accepted-number : (w n : ℕ) (t : List ℕ) → Accepted w n t → numbered_table_refusal w n t ≡ 0
-unfolding table_check_on shape_check
-accepted-number w n t a = rw (a.wired, a.size, eq-eqb (length t) (table_length n) a.long, a.lines, a.unclosed)
+pub accepted-number : (w : Wiring) (n : ℕ) (t : List ℕ) → Accepted w n t → table_refusal w n t ≡ 0
+unfolding table_check shape_check
+accepted-number w n t a = rw (a.size, eq-eqb (length t) (table_length n) a.long, a.lines, a.unclosed)
 
 -- the entries of a schedule
 entries-length : (s : List ℕ) → length (entries s) ≡ length s / 2
@@ -58,7 +59,7 @@ some-outcome n t kind i j =
     let P : ℕ → Type 0 = λ o. shows_test o ≡ true in
     choice P (replies n t kind j) (choice P (is_told n t i j) refl (choice P (is_told n t j i) refl refl)) refl
 
-pub made-test : (w n : ℕ) (t : List ℕ) (e : Entry) → shows_test (outcome_of w n t e) ≡ is_test w n t e
+pub made-test : (w : Wiring) (n : ℕ) (t : List ℕ) (e : Entry) → shows_test (outcome_of w n t e) ≡ is_test w n t e
 unfolding outcome_of turn_outcome
 made-test w n t e = pick (is_crash e) (makes_test w n t e.station)
   where
@@ -71,7 +72,8 @@ made-test w n t e = pick (is_crash e) (makes_test w n t e.station)
     pick false false = refl
 
 -- a line that is lent as a part of the sheet and comes back as that of an entry
-pub line-back : (w n : ℕ) (s : State) (e : Entry) (sheet : List ℕ) (k : ℕ) (line : List ℕ) → line ≡ sheet_line w n s e → 4 * k + 4 ≤ length sheet
+pub line-back : (w : Wiring) (n : ℕ) (s : State) (e : Entry) (sheet : List ℕ) (k : ℕ) (line : List ℕ) → line ≡ sheet_line w n s e
+    → 4 * k + 4 ≤ length sheet
     → take (4 * k) sheet ++ (line ++ drop (4 * k + 4 - 4 * k) (drop (4 * k) sheet)) ≡ write_line sheet k (sheet_line w n s e)
 unfolding sheet_line
 line-back w n s e sheet k line same fits =
@@ -79,7 +81,7 @@ line-back w n s e sheet k line same fits =
     rw (four, drop-drop, same) (sym (rw append_assoc at (sets-eq (sheet_line w n s e) sheet (4 * k) fits)))
 
 -- the run from entry k on
-module _ (w n k : ℕ) (s : State) (sheet schedule : List ℕ) where
+module _ (w : Wiring) (n k : ℕ) (s : State) (sheet schedule : List ℕ) where
   abbrev pub from-here : RunResult
   from-here = go_on w n k s sheet (drop k (entries schedule))
 
@@ -99,27 +101,27 @@ module _ (w n k : ℕ) (s : State) (sheet schedule : List ℕ) where
   go-done h = rw (drop_of_length-le (entries schedule) {i = k} (omega (arith, entries-length schedule)))
 
 -- a run of one entry, which is taken
-pub start-one : (w n : ℕ) (t : List ℕ) → numbered_table_refusal w n t ≡ 0 → start_refusal w n t 2 4 ≡ 0
+pub start-one : (w : Wiring) (n : ℕ) (t : List ℕ) → table_refusal w n t ≡ 0 → start_refusal w n t 2 4 ≡ 0
 unfolding start_check
 start-one w n t z = rw (check_zero _ z)
 
-pub go-one : (w n : ℕ) (s : State) (sheet : List ℕ) (k i : ℕ) → entry_refusal n s (entry_of k i) ≡ 0
+pub go-one : (w : Wiring) (n : ℕ) (s : State) (sheet : List ℕ) (k i : ℕ) → entry_refusal n s (entry_of k i) ≡ 0
     → (go_on w n 0 s sheet (entries (k ∷ i ∷ []))).state ≡ after w n s (entry_of k i)
 unfolding go_on entries
 go-one w n s sheet k i z = rw z
 
--- what a run has that refusals 24 and 1 to 6 let through
-start_ok : (w n : ℕ) (t : List ℕ) (a b : ℕ) (x : Unit {0}) → start_check w n t a b ≡ Ok x → Accepted w n t × (a % 2 ≡ 1 → ⊥) × (b ≡ 2 * a)
+-- what a run has that refusals 1 to 6 let through
+start_ok : (w : Wiring) (n : ℕ) (t : List ℕ) (a b : ℕ) (x : Unit {0}) → start_check w n t a b ≡ Ok x → Accepted w n t × (a % 2 ≡ 1 → ⊥) × (b ≡ 2 * a)
 unfolding start_check
 start_ok w n t a b x e =
     let p = and_ok _ _ x e in
     let q = and_ok _ _ x p.1 in
     (table_ok w n t _ p.0, eqb-false _ _ (not-true _ (ensure_ok _ _ _ q.0)), eqb-true _ _ (ensure_ok _ _ _ q.1))
 
-pub start-facts : (w n : ℕ) (t : List ℕ) (a b : ℕ) → start_refusal w n t a b ≡ 0 → Accepted w n t × (a % 2 ≡ 1 → ⊥) × (b ≡ 2 * a)
+pub start-facts : (w : Wiring) (n : ℕ) (t : List ℕ) (a b : ℕ) → start_refusal w n t a b ≡ 0 → Accepted w n t × (a % 2 ≡ 1 → ⊥) × (b ≡ 2 * a)
 start-facts w n t a b z = start_ok w n t a b _ (check_zero _ z)
 
-module _ (w n : ℕ) (s : State) (schedule sheet : List ℕ) where
+module _ (w : Wiring) (n : ℕ) (s : State) (schedule sheet : List ℕ) where
   pub run-refused : (r : Refusal) → start_check w n s.table (length schedule) (length sheet) ≡ Err r
       → run w n s schedule sheet ≡ record { number = number_of r; taken = 0; state = s; sheet = sheet }
   unfolding run

@@ -13,17 +13,18 @@ use Rattle.table.specs.Table.{status_told, next_distance, finished, tests_made, 
 use Rattle.lists.specs.Bytes.{joined_byte}
 use Rattle.station.specs.Rows.{union_byte, union, mark}
 use Rattle.table.proofs.CellLaws.{cell_same, cell_other, set_cell-length, row-length, row_at, set_row-length, set_row-in, set_row-out}
+use Rattle.table.specs.declared.wiring.Wiring.{Wiring}
 use Rattle.station.proofs.UnionLaws.{union-length, union-at, union-own, union-others, mark-length, mark-same, mark-other}
 use Rattle.plant.specs.Turn.{set_status, leave_told, finish_pass, count_test, exchange_rows, suspect}
 use Rattle.station.specs.Wired.{next_after}
 
 module _ (n : ℕ) (t : List ℕ) (i : ℕ) where
   -- the end of a pass: next distance the end distance, finished 1
-  pub finish_pass-length : (w : ℕ) → length (finish_pass w n t i) ≡ length t
+  pub finish_pass-length : (w : Wiring) → length (finish_pass w n t i) ≡ length t
   unfolding finish_pass
   finish_pass-length w = simp set_cell-length
 
-  pub finish_pass-other : (w i' c : ℕ) → c < stride n → (i ≡ i' → (c ≢ next_column) × (c ≢ finished_column))
+  pub finish_pass-other : (w : Wiring) (i' c : ℕ) → c < stride n → (i ≡ i' → (c ≢ next_column) × (c ≢ finished_column))
       → cell n (finish_pass w n t i) i' c ≡ cell n t i' c
   unfolding finish_pass
   finish_pass-other w i' c h out =
@@ -31,11 +32,11 @@ module _ (n : ℕ) (t : List ℕ) (i : ℕ) where
       ∙ cell_other n t i next_column (end_distance w n) i' c (omega arith) h (λ e f. (out e).0 (sym f))
 
   -- the test is counted, by its outcome o: next distance what the wiring says, one test more
-  pub count_test-length : (w m o : ℕ) → length (count_test w n t i m o) ≡ length t
+  pub count_test-length : (w : Wiring) (m o : ℕ) → length (count_test w n t i m o) ≡ length t
   unfolding count_test
   count_test-length w m o = simp set_cell-length
 
-  pub count_test-other : (w m o i' c : ℕ) → c < stride n → (i ≡ i' → (c ≢ next_column) × (c ≢ tests_column))
+  pub count_test-other : (w : Wiring) (m o i' c : ℕ) → c < stride n → (i ≡ i' → (c ≢ next_column) × (c ≢ tests_column))
       → cell n (count_test w n t i m o) i' c ≡ cell n t i' c
   unfolding count_test
   count_test-other w m o i' c h out =
@@ -66,23 +67,23 @@ module _ (n : ℕ) (t : List ℕ) (i : ℕ) where
     leave_told-teller j =
         cell_same n (set_status n t i status_told) i told_by_column j (set_cell-length n t i status_column status_told ∙ long) h (omega arith)
 
-    pub finish_pass-next : (w : ℕ) → next_distance n (finish_pass w n t i) i ≡ end_distance w n
+    pub finish_pass-next : (w : Wiring) → next_distance n (finish_pass w n t i) i ≡ end_distance w n
     unfolding finish_pass
     finish_pass-next w =
         cell_other n _ i finished_column 1 i next_column (omega arith) (omega arith) (omega arith)
         ∙ cell_same n t i next_column (end_distance w n) long h (omega arith)
 
-    pub finish_pass-finished : (w : ℕ) → finished n (finish_pass w n t i) i ≡ 1
+    pub finish_pass-finished : (w : Wiring) → finished n (finish_pass w n t i) i ≡ 1
     unfolding finish_pass
     finish_pass-finished w = cell_same n _ i finished_column 1 (set_cell-length n t i next_column (end_distance w n) ∙ long) h (omega arith)
 
-    pub count_test-next : (w m o : ℕ) → next_distance n (count_test w n t i m o) i ≡ next_after w n m o
+    pub count_test-next : (w : Wiring) (m o : ℕ) → next_distance n (count_test w n t i m o) i ≡ next_after w n m o
     unfolding count_test
     count_test-next w m o =
         cell_other n _ i tests_column _ i next_column (omega arith) (omega arith) (omega arith)
         ∙ cell_same n t i next_column (next_after w n m o) long h (omega arith)
 
-    pub count_test-tests : (w m o : ℕ) → tests_made n (count_test w n t i m o) i ≡ tests_made n t i + 1
+    pub count_test-tests : (w : Wiring) (m o : ℕ) → tests_made n (count_test w n t i m o) i ≡ tests_made n t i + 1
     unfolding count_test
     count_test-tests w m o = cell_same n _ i tests_column _ (set_cell-length n t i next_column (next_after w n m o) ∙ long) h (omega arith)
 

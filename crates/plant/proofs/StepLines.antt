@@ -19,6 +19,7 @@ use Rattle.lists.proofs.SearchLaws.{both}
 use Rattle.station.proofs.WiredLaws.{station-apart, next_after-between}
 use Rattle.table.specs.Rules.{exit_rule}
 use Rattle.table.proofs.CellLaws.{Line, live_exit, told-exit, none-exit, cell_same, cell_other, set_cell-length}
+use Rattle.table.specs.declared.wiring.Wiring.{Wiring}
 use Rattle.plant.specs.Turn.{set_status, leave_told, makes_test, next_test, finish_pass, count_test, exchange_rows, suspect, after_outcome}
 use Rattle.plant.specs.Turn.{after_test, is_alone, after_alone, outcome_at, testing, turn}
 use Rattle.station.specs.Outcome.{outcome_exchanged, outcome_told, outcome_tested_told}
@@ -29,11 +30,11 @@ use Rattle.plant.proofs.StepCells.{suspect-length, suspect-same, suspect-other, 
 use Rattle.plant.proofs.StepCells.{exchange-tester-own, exchange-tested-own}
 
 -- the table has its length, and each line obeys the rules
-abbrev pub Lines : ℕ → ℕ → List ℕ → Type 0
+abbrev pub Lines : Wiring → ℕ → List ℕ → Type 0
 Lines w n t = (length t ≡ table_length n) × ((i : ℕ) → i < n → Line w n t i)
 
 -- a line whose head is as before
-line_row : (w n : ℕ) (t t' : List ℕ) (k : ℕ) → Line w n t k → ((c : ℕ) → c < head → cell n t' k c ≡ cell n t k c)
+line_row : (w : Wiring) (n : ℕ) (t t' : List ℕ) (k : ℕ) → Line w n t k → ((c : ℕ) → c < head → cell n t' k c ≡ cell n t k c)
     → suspects n t' k k ≡ 0 → ((x : ℕ) → x < n → suspects n t' k x ≤ 1) → Line w n t' k
 line_row w n t t' k l same own range =
     record {
@@ -45,7 +46,7 @@ line_row w n t t' k l same own range =
     }
 
 -- all lines obey the rules where line i does and no other is written
-one_line : (w n : ℕ) (t t' : List ℕ) (i : ℕ) → length t' ≡ length t → ((k c : ℕ) → c < stride n → i ≢ k → cell n t' k c ≡ cell n t k c)
+one_line : (w : Wiring) (n : ℕ) (t t' : List ℕ) (i : ℕ) → length t' ≡ length t → ((k c : ℕ) → c < stride n → i ≢ k → cell n t' k c ≡ cell n t k c)
     → Line w n t' i → Lines w n t → Lines w n t'
 one_line w n t t' i len same here old = (len ∙ old.0, λ k h. pick k h (ℕ_discrete i k))
   where
@@ -57,7 +58,7 @@ one_line w n t t' i len same here old = (len ∙ old.0, λ k h. pick k h (ℕ_di
         (λ x hx. rw (same k (head + x) (omega arith) d) (l.range x hx))
 
 -- a line of which only bytes 0 and 4 are written
-line-exit : (w n : ℕ) (t t' : List ℕ) (k : ℕ) → Line w n t k
+line-exit : (w : Wiring) (n : ℕ) (t t' : List ℕ) (k : ℕ) → Line w n t k
     → ((c : ℕ) → c < stride n → (c ≢ status_column) × (c ≢ told_by_column) → cell n t' k c ≡ cell n t k c)
     → (s : ℕ) → status n t' k ≡ s → s ≤ 3 → exit_rule n k s (told_by n t' k) (rounds_ago n t k) ≡ true → k < n → Line w n t' k
 line-exit w n t t' k l same s e hs exits h =
@@ -71,7 +72,7 @@ line-exit w n t t' k l same s e hs exits h =
     }
 
 -- alone or crashed: the status of a live station, not because told
-pub leave-lines : (w n : ℕ) (t : List ℕ) (i : ℕ) → Lines w n t → i < n → live n t i ≡ true
+pub leave-lines : (w : Wiring) (n : ℕ) (t : List ℕ) (i : ℕ) → Lines w n t → i < n → live n t i ≡ true
     → (s : ℕ) → 1 ≤ s → s ≤ 3 → s ≢ status_told → Lines w n (set_status n t i s)
 leave-lines w n t i lines h alive s low high untold =
     let other : (c : ℕ) → c < stride n → (c ≢ status_column) × (c ≢ told_by_column) → cell n (set_status n t i s) i c ≡ cell n t i c =
@@ -84,13 +85,13 @@ leave-lines w n t i lines h alive s low high untold =
     (none-exit n i s _ _ low untold (cell_other n t i status_column s i told_by_column (omega arith) (omega arith) (omega arith) ∙ none)) h) lines
 
 -- a station that is told by another
-told-lines : (w n : ℕ) (t : List ℕ) (a b : ℕ) → Lines w n t → a < n → b < n → b ≢ a → Lines w n (leave_told n t a b)
+told-lines : (w : Wiring) (n : ℕ) (t : List ℕ) (a b : ℕ) → Lines w n t → a < n → b < n → b ≢ a → Lines w n (leave_told n t a b)
 told-lines w n t a b lines h hb apart =
     one_line w n t (leave_told n t a b) a (leave_told-length n t a b) (λ k c hc d. leave_told-other n t a b k c hc (λ f. absurd (d f)))
     (line-exit w n t (leave_told n t a b) a (lines.1 a h) (λ c hc d. leave_told-other n t a b a c hc (λ _. d)) status_told
     (leave_told-status n t a lines.0 h b) (omega arith) (rw (leave_told-teller n t a lines.0 h b) (told-exit n a b _ hb apart)) h) lines
 
-module _ (w n : ℕ) (t : List ℕ) (i : ℕ) (lines : Lines w n t) (h : i < n) where
+module _ (w : Wiring) (n : ℕ) (t : List ℕ) (i : ℕ) (lines : Lines w n t) (h : i < n) where
   -- the end of a pass
   pub finish_pass-lines : Lines w n (finish_pass w n t i)
   finish_pass-lines =
@@ -204,7 +205,7 @@ module _ (w n : ℕ) (t : List ℕ) (i : ℕ) (lines : Lines w n t) (h : i < n) 
       (λ e. rw e lines)
 
 -- a whole turn
-pub turn_lines : (w n : ℕ) (t : List ℕ) (kind i : ℕ) → Lines w n t → i < n → (finished n t i ≡ 1 → ⊥) → Lines w n (turn w n t kind i)
+pub turn_lines : (w : Wiring) (n : ℕ) (t : List ℕ) (kind i : ℕ) → Lines w n t → i < n → (finished n t i ≡ 1 → ⊥) → Lines w n (turn w n t kind i)
 unfolding turn testing after_test
 turn_lines w n t kind i lines h going = pick (makes_test w n t i) refl
   where

@@ -10,7 +10,7 @@ use native.Mathlib.Omega.{arith}
 use lib.ListN.{length, length-append}
 use lib.Dec.{eqb}
 use Rattle.lists.specs.Search.{select}
-use Rattle.table.specs.Wiring.{wiring_cube, end_distance}
+use Rattle.table.specs.Wiring.{end_distance}
 use Rattle.station.specs.Wired.{wired_station, wired_due}
 use Rattle.table.specs.Table.{table_length, cell, status_column, next_column, finished_column, tests_column, next_distance, finished, tests_made}
 use Rattle.table.specs.Table.{row, status_alone}
@@ -28,6 +28,8 @@ use Rattle.plant.proofs.StepLines.{Lines}
 use Rattle.lists.specs.Sums.{sum_below, bit}
 use Rattle.lists.proofs.BoolLaws.{by_bool, choice}
 use Rattle.lists.proofs.FilterLaws.{select-suc, select-stays, select-sum}
+use Rattle.table.specs.declared.wiring.Wiring.{Wiring}
+use Rattle.table.specs.declared.wiring.Wiring.TheVariants.{Cube}
 
 -- the columns that a turn counts in are as before, in all lines
 abbrev SameCounts : ℕ → List ℕ → List ℕ → Type 0
@@ -55,13 +57,13 @@ module _ (n : ℕ) (t : List ℕ) (i : ℕ) where
       (λ k c counts. suspect-other n t i long hi j k c (omega arith) (λ _. omega arith))))
 
 -- what a turn of i does to them, where b says whether it makes a test, and o what comes of that
-pub record Heads (w n : ℕ) (t t' : List ℕ) (i o : ℕ) (b : Bool) : Type 0 where
+pub record Heads (w : Wiring) (n : ℕ) (t t' : List ℕ) (i o : ℕ) (b : Bool) : Type 0 where
   pub others : (k c : ℕ) → k ≢ i → TurnCounts c → cell n t' k c ≡ cell n t k c
   pub next : next_distance n t' i ≡ cond b (next_after w n (next_test w n t i) o) (end_distance w n)
   pub finish : finished n t' i ≡ cond b (finished n t i) 1
   pub tests : tests_made n t' i ≡ tests_made n t i + bit b
 
-pub turn-heads : (w n : ℕ) (t : List ℕ) (kind i : ℕ) → Lines w n t → i < n
+pub turn-heads : (w : Wiring) (n : ℕ) (t : List ℕ) (kind i : ℕ) → Lines w n t → i < n
     → Heads w n t (turn w n t kind i) i (outcome_at w n t kind i (next_test w n t i)) (makes_test w n t i)
 unfolding turn testing after_test
 turn-heads w n t kind i lines h =
@@ -97,38 +99,38 @@ turn-heads w n t kind i lines h =
         }
 
 -- on the cube: of the distances that a turn passes one is due if it makes a test, and none if it makes none
-module _ (n : ℕ) (t t' : List ℕ) (i o : ℕ) (heads : Heads wiring_cube n t t' i o (makes_test wiring_cube n t i))
-    (high : next_distance n t i ≤ end_distance wiring_cube n) where
+module _ (n : ℕ) (t t' : List ℕ) (i o : ℕ) (heads : Heads Cube n t t' i o (makes_test Cube n t i))
+    (high : next_distance n t i ≤ end_distance Cube n) where
   abbrev q : ℕ → Bool
   q = due (row n t i) i
 
   abbrev m : ℕ
-  m = next_test wiring_cube n t i
+  m = next_test Cube n t i
 
   -- what is asked on the cube is whether the distance is due
-  asked : (y : ℕ) (b : Bool) → wired_due wiring_cube (row n t i) i y ≡ b → q y ≡ b
-  asked y b e = sym (cube_due wiring_cube (row n t i) i y refl) ∙ e
+  asked : (y : ℕ) (b : Bool) → wired_due Cube (row n t i) i y ≡ b → q y ≡ b
+  asked y b e = sym (cube_due Cube (row n t i) i y refl) ∙ e
 
-  stays : next_after wiring_cube n m o ≡ m + 1
+  stays : next_after Cube n m o ≡ m + 1
   unfolding next_after
   stays = refl
 
-  pub passed-list : select q (next_distance n t' i) ≡ select q (next_distance n t i) ++ cond (makes_test wiring_cube n t i) (m ∷ []) []
+  pub passed-list : select q (next_distance n t' i) ≡ select q (next_distance n t i) ++ cond (makes_test Cube n t i) (m ∷ []) []
   passed-list =
-      by_bool (makes_test wiring_cube n t i)
+      by_bool (makes_test Cube n t i)
       (λ e.
       let stay =
-      select-stays q (next_distance n t i) m (next_test-low wiring_cube n t i)
-      (λ y a b. asked y false (not-due-before wiring_cube n t i y a b)) in
-      rw (heads.next, e, stays, add-one m, select-suc q m, asked m true (test-due wiring_cube n t i e), stay))
+      select-stays q (next_distance n t i) m (next_test-low Cube n t i)
+      (λ y a b. asked y false (not-due-before Cube n t i y a b)) in
+      rw (heads.next, e, stays, add-one m, select-suc q m, asked m true (test-due Cube n t i e), stay))
       (λ e.
       let stay =
-      select-stays q (next_distance n t i) (end_distance wiring_cube n) high (λ y a b. asked y false (none-due wiring_cube n t i e high y a b)) in
+      select-stays q (next_distance n t i) (end_distance Cube n) high (λ y a b. asked y false (none-due Cube n t i e high y a b)) in
       rw (heads.next, e, append-nil) stay)
 
   pub passed-dues : sum_below (λ x. bit (q x)) (next_distance n t' i) ≡ sum_below (λ x. bit (q x)) (next_distance n t i) + bit
-      (makes_test wiring_cube n t i)
+      (makes_test Cube n t i)
   passed-dues =
       sym (select-sum q (next_distance n t' i))
-      ∙ (ap length passed-list ∙ length-append (select q (next_distance n t i)) (cond (makes_test wiring_cube n t i) (m ∷ []) []))
-      ∙ ap₂ ◌+◌ (select-sum q (next_distance n t i)) (by_bool (makes_test wiring_cube n t i) (λ e. rw e) (λ e. rw e))
+      ∙ (ap length passed-list ∙ length-append (select q (next_distance n t i)) (cond (makes_test Cube n t i) (m ∷ []) []))
+      ∙ ap₂ ◌+◌ (select-sum q (next_distance n t i)) (by_bool (makes_test Cube n t i) (λ e. rw e) (λ e. rw e))

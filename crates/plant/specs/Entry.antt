@@ -1,10 +1,11 @@
--- One entry of a schedule: refusals 7 to 11, then what the entry does, for all inputs. w is the wiring's number.
+-- One entry of a schedule: refusals 7 to 11, then what the entry does, for all inputs. w is the wiring.
 -- Assumes nothing.
 use Rattle.std.specs.Prelude.{ℕ, ◌+◌, Bool, not, ◌&&◌, ◌||◌, List, [], ◌∷◌, if◌then◌else◌, ◌==◌, nat_le}
 use Rattle.table.specs.Table.{status, finished, live}
 use Rattle.lists.specs.declared.refusal.Refusal.TheVariants.{TallyFull, UnknownKind, NotLive, PassFinished}
 use Rattle.lists.specs.Refusal.{Check, ensure, ◌and◌, number_of_result}
 use Rattle.table.specs.Rules.{round_over, station_check}
+use Rattle.table.specs.declared.wiring.Wiring.{Wiring}
 use Rattle.plant.specs.declared.Tally.{Tally}
 use Rattle.plant.specs.declared.entry.Entry.{Entry as Known}
 use Rattle.plant.specs.Kind.{kind_byte}
@@ -51,7 +52,7 @@ tally_full rounds tests = rounds == tally_top || tests == tally_top
 abbrev pub is_crash : Entry → Bool
 is_crash e = e.kind == kind_crash
 
-abbrev pub is_test : ℕ → ℕ → List ℕ → Entry → Bool
+abbrev pub is_test : Wiring → ℕ → List ℕ → Entry → Bool
 is_test w n t e = not (is_crash e) && makes_test w n t e.station
 
 -- Rule Taken, refusals 7 to 11: a counter is full; the kind is not 1, 2 or 3; the station's number is n or more; it is not live; the kind is 1 or 2,
@@ -68,11 +69,11 @@ abbrev pub entry_refusal : ℕ → State → Entry → ℕ
 entry_refusal n s e = number_of_result (entry_check n s e)
 
 -- the table after the crash or the turn, before the round is looked at
-unfoldable pub acted : ℕ → ℕ → List ℕ → Entry → List ℕ
+unfoldable pub acted : Wiring → ℕ → List ℕ → Entry → List ℕ
 acted w n t e = if is_crash e then crash n t e.station else turn w n t e.kind e.station
 
 -- Rules Count the test, Count the round and Taken: table and tally after an entry that is not refused, with the closing of a round
-unfoldable pub after : ℕ → ℕ → State → Entry → State
+unfoldable pub after : Wiring → ℕ → State → Entry → State
 after w n s e = record {
   table = after_round n (acted w n s.table e);
   rounds = if round_over n (acted w n s.table e) then s.rounds + 1 else s.rounds;
@@ -80,10 +81,10 @@ after w n s e = record {
 }
 
 -- the tested station or 255, and the outcome
-unfoldable pub tested_of : ℕ → ℕ → List ℕ → Entry → ℕ
+unfoldable pub tested_of : Wiring → ℕ → List ℕ → Entry → ℕ
 tested_of w n t e = if is_crash e then no_station else turn_tested w n t e.station
 
-unfoldable pub outcome_of : ℕ → ℕ → List ℕ → Entry → ℕ
+unfoldable pub outcome_of : Wiring → ℕ → List ℕ → Entry → ℕ
 outcome_of w n t e = if is_crash e then outcome_crash else turn_outcome w n t e.kind e.station
 
 -- whether the outcome is that of a test
@@ -91,6 +92,6 @@ abbrev pub shows_test : ℕ → Bool
 shows_test outcome = not (outcome == outcome_finished) && not (outcome == outcome_crash)
 
 -- Rule Run sheet: four bytes, i; the tested station, or 255; the outcome; i's status after the entry
-unfoldable pub sheet_line : ℕ → ℕ → State → Entry → List ℕ
+unfoldable pub sheet_line : Wiring → ℕ → State → Entry → List ℕ
 sheet_line w n s e =
     e.station ∷ tested_of w n s.table e ∷ outcome_of w n s.table e ∷ status n (after w n s e).table e.station ∷ []

@@ -1,8 +1,8 @@
 -- A round on the ring, worked out by hand: four boards, of which board 1 is dead.
 -- Assumes nothing.
 use Rattle.std.specs.Prelude.{◌≡◌, ℕ, List, [], ◌∷◌, replicate}
-use Rattle.table.specs.Wiring.{wiring_ring}
 use Rattle.table.specs.Fresh.{fresh_table}
+use Rattle.table.specs.declared.wiring.Wiring.TheVariants.{Ring}
 use Rattle.plant.specs.Turn.{crash}
 use Rattle.plant.specs.Entry.{state_of}
 use Rattle.plant.specs.Run.{RunResult, run}
@@ -13,7 +13,7 @@ ring_schedule = 1 ∷ 0 ∷ 1 ∷ 0 ∷ 1 ∷ 0 ∷ 1 ∷ 2 ∷ 1 ∷ 2 ∷ 1 �
 
 -- run on a fresh table in which board 1 has crashed
 abbrev pub ring_round : RunResult
-ring_round = run wiring_ring 4 (state_of (crash 4 (fresh_table 4) 1) 0 0) ring_schedule (replicate 28 0)
+ring_round = run Ring 4 (state_of (crash 4 (fresh_table 4) 1) 0 0) ring_schedule (replicate 28 0)
 
 -- 1 does not reply to 0; 0 exchanges with 2, then finishes its pass; 2 exchanges with 3, and 3 with 0, and each finishes
 abbrev pub ring_sheet : List ℕ

@@ -1,4 +1,4 @@
--- A turn of one station and a crash, as functions of the table. w is the wiring's number, station i the entry's, kind its kind, j the tested
+-- A turn of one station and a crash, as functions of the table. w is the wiring, station i the entry's, kind its kind, j the tested
 -- station.
 -- Assumes nothing.
 use Rattle.std.specs.Prelude.{ℕ, Bool, ◌&&◌, List, if◌then◌else◌, ◌==◌, nat_lt}
@@ -6,6 +6,7 @@ use Rattle.lists.specs.Search.{every}
 use Rattle.table.specs.Wiring.{end_distance}
 use Rattle.table.specs.Table.{write_cells, set_cell, status_column, next_distance, tests_made, suspects, live, row, set_row, status_alone}
 use Rattle.table.specs.Table.{status_crashed}
+use Rattle.table.specs.declared.wiring.Wiring.{Wiring}
 use Rattle.station.specs.Wired.{wired_station, next_due}
 use Rattle.station.specs.Outcome.{outcome_finished, outcome_no_reply, no_station}
 use Rattle.station.specs.Step.{told_writes, finish_writes, count_writes, outcome_by, by_outcome}
@@ -31,20 +32,20 @@ leave_told n t a b = write_cells n a t (told_writes b)
 
 -- Rules Next test of the cube and Next test of the ring: the least distance that is not below i's next distance and at which i is to test. On the
 -- ring that is the next distance itself. Where there is none: the end distance
-unfoldable pub next_test : ℕ → ℕ → List ℕ → ℕ → ℕ
+unfoldable pub next_test : Wiring → ℕ → List ℕ → ℕ → ℕ
 next_test w n t i = next_due w n (row n t i) i (next_distance n t i)
 
 -- whether there is one
-unfoldable pub makes_test : ℕ → ℕ → List ℕ → ℕ → Bool
+unfoldable pub makes_test : Wiring → ℕ → List ℕ → ℕ → Bool
 makes_test w n t i = nat_lt (next_test w n t i) (end_distance w n)
 
 -- Rule End of a pass: next distance becomes the end distance, and the pass is finished. No test is made
-unfoldable pub finish_pass : ℕ → ℕ → List ℕ → ℕ → List ℕ
+unfoldable pub finish_pass : Wiring → ℕ → List ℕ → ℕ → List ℕ
 finish_pass w n t i = write_cells n i t (finish_writes w n)
 
 -- Rule Count the test, by its outcome: next distance becomes what the wiring says, and i's tests made go up by one. The tally's tests grow in
 -- `after`
-unfoldable pub count_test : ℕ → ℕ → List ℕ → ℕ → ℕ → ℕ → List ℕ
+unfoldable pub count_test : Wiring → ℕ → List ℕ → ℕ → ℕ → ℕ → List ℕ
 count_test w n t i m outcome = write_cells n i t (count_writes w n m outcome (tests_made n t i))
 
 -- Rule Reply in time: j is live, and the kind is 1
@@ -89,27 +90,27 @@ unfoldable pub after_alone : ℕ → List ℕ → ℕ → List ℕ
 after_alone n t i = if is_alone n t i then set_status n t i status_alone else t
 
 -- the table after a test of j at distance m, by its outcome: Count the test, what the outcome does, then Alone
-unfoldable pub after_test : ℕ → ℕ → List ℕ → ℕ → ℕ → ℕ → ℕ → List ℕ
+unfoldable pub after_test : Wiring → ℕ → List ℕ → ℕ → ℕ → ℕ → ℕ → List ℕ
 after_test w n t i m j outcome = after_alone n (after_outcome n (count_test w n t i m outcome) i j outcome) i
 
 -- the outcome of the test of the station at distance m
-abbrev pub outcome_at : ℕ → ℕ → List ℕ → ℕ → ℕ → ℕ → ℕ
+abbrev pub outcome_at : Wiring → ℕ → List ℕ → ℕ → ℕ → ℕ → ℕ
 outcome_at w n t kind i m = test_outcome n t kind i (wired_station w n i m)
 
 -- a turn that tests the station at distance m
-unfoldable pub testing : ℕ → ℕ → List ℕ → ℕ → ℕ → ℕ → List ℕ
+unfoldable pub testing : Wiring → ℕ → List ℕ → ℕ → ℕ → ℕ → List ℕ
 testing w n t kind i m = after_test w n t i m (wired_station w n i m) (outcome_at w n t kind i m)
 
 -- a turn of station i: the next test, or the end of its pass
-unfoldable pub turn : ℕ → ℕ → List ℕ → ℕ → ℕ → List ℕ
+unfoldable pub turn : Wiring → ℕ → List ℕ → ℕ → ℕ → List ℕ
 turn w n t kind i = if makes_test w n t i then testing w n t kind i (next_test w n t i) else finish_pass w n t i
 
 -- the tested station or 255
-unfoldable pub turn_tested : ℕ → ℕ → List ℕ → ℕ → ℕ
+unfoldable pub turn_tested : Wiring → ℕ → List ℕ → ℕ → ℕ
 turn_tested w n t i = if makes_test w n t i then wired_station w n i (next_test w n t i) else no_station
 
 -- the outcome of the turn
-unfoldable pub turn_outcome : ℕ → ℕ → List ℕ → ℕ → ℕ → ℕ
+unfoldable pub turn_outcome : Wiring → ℕ → List ℕ → ℕ → ℕ → ℕ
 turn_outcome w n t kind i = if makes_test w n t i then outcome_at w n t kind i (next_test w n t i) else outcome_finished
 
 -- Rule Crash: the status becomes 1, and nothing else on the line changes. Byte 4 stays 255, which a live line has by the line rules

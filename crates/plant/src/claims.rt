@@ -13,7 +13,7 @@ pub fn runs()
 {}
 
 // Computed (specs/Example.antt).
-pub fn example()
+pub fn round_on_the_ring()
     // A round of four boards on the ring, of which one is dead.
     ensures { RoundOnTheRing }
 {}

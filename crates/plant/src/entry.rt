@@ -2,8 +2,7 @@
 ghost use Rattle.std.specs.Prelude.{◌≡◌, ◌<◌, length, IfOk};
 ghost use Rattle.std.specs.Result.{result_map_both};
 ghost use Rattle.table.specs.Lent.{IsSameLoan};
-ghost use Rattle.table.specs.Wiring.{wiring_number};
-ghost use Rattle.table.specs.Rules.{numbered_table_refusal};
+ghost use Rattle.table.specs.Rules.{table_refusal};
 ghost use Rattle.station.specs.Outcome.{tested_byte, outcome_byte};
 ghost use Rattle.plant.specs.Entry.{state_with, entry_of, entry_known, entry_check, entry_refusal, shows_test, acted, after, tested_of, outcome_of};
 ghost use Rattle.plant.specs.Entry.{sheet_line};
@@ -74,18 +73,15 @@ pub(crate) fn take_entry(
     line: &mut [u8],
 ) -> Tally
     requires same_size { wired.n ≡ table.old.n }
-    requires table_obeys { let w = wiring_number wired.wiring in
-        numbered_table_refusal w table.old.n table.old.bytes.now ≡ 0 }
+    requires table_obeys { table_refusal wired.wiring table.old.n table.old.bytes.now ≡ 0 }
     requires entry_taken { entry_refusal table.old.n
         (state_with table.old.bytes.now tally) (entry_known entry) ≡ 0 }
     requires line_length { length line.old ≡ 4 }
     ensures same_loan { IsSameLoan table.old table.new }
-    ensures state_after { let w = wiring_number wired.wiring in
-        state_with table.new.bytes.now result
-        ≡ after w table.old.n (state_with table.old.bytes.now tally) (entry_known entry) }
-    ensures line_after { let w = wiring_number wired.wiring in
-        line.new
-        ≡ sheet_line w table.old.n (state_with table.old.bytes.now tally) (entry_known entry) }
+    ensures state_after { state_with table.new.bytes.now result
+        ≡ after wired.wiring table.old.n (state_with table.old.bytes.now tally) (entry_known entry) }
+    ensures line_after { line.new
+        ≡ sheet_line wired.wiring table.old.n (state_with table.old.bytes.now tally) (entry_known entry) }
 {
     let station = entry.station;
     let done = act(wired, table, entry);
@@ -111,16 +107,15 @@ fn made_test(done: Outcome) -> bool
 #[tactic(auto, unfolding(crate::specs::Entry::acted, crate::specs::Entry::tested_of, crate::specs::Entry::outcome_of, crate::specs::Turn::crash))]
 fn act(wired: Wired, table: &mut TableMut, entry: Entry) -> Outcome
     requires same_size { wired.n ≡ table.old.n }
-    requires table_obeys { let w = wiring_number wired.wiring in
-        numbered_table_refusal w table.old.n table.old.bytes.now ≡ 0 }
+    requires table_obeys { table_refusal wired.wiring table.old.n table.old.bytes.now ≡ 0 }
     requires station_below { entry.station.0 < table.old.n }
-    ensures tested_station { let w = wiring_number wired.wiring in
-        tested_byte result ≡ tested_of w table.old.n table.old.bytes.now (entry_known entry) }
-    ensures outcome_number { let w = wiring_number wired.wiring in
-        outcome_byte result ≡ outcome_of w table.old.n table.old.bytes.now (entry_known entry) }
+    ensures tested_station { tested_byte result
+        ≡ tested_of wired.wiring table.old.n table.old.bytes.now (entry_known entry) }
+    ensures outcome_number { outcome_byte result
+        ≡ outcome_of wired.wiring table.old.n table.old.bytes.now (entry_known entry) }
     ensures same_loan { IsSameLoan table.old table.new }
-    ensures entry_acted { let w = wiring_number wired.wiring in
-        table.new.bytes.now ≡ acted w table.old.n table.old.bytes.now (entry_known entry) }
+    ensures entry_acted { table.new.bytes.now
+        ≡ acted wired.wiring table.old.n table.old.bytes.now (entry_known entry) }
 {
     if entry.kind == Kind::Crash {
         table.set_status(entry.station, Status::Crashed);

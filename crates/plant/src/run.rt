@@ -2,7 +2,6 @@
 ghost use Rattle.std.specs.Prelude.{◌≡◌, length, IfOk};
 ghost use Rattle.std.specs.Result.{result_map_both};
 ghost use Rattle.table.specs.Lent.{IsSameLoan};
-ghost use Rattle.table.specs.Wiring.{wiring_number};
 ghost use Rattle.plant.specs.Entry.{state_with};
 ghost use Rattle.plant.specs.Run.{entries, go_on, start_check, start_refusal, outcome_with, run};
 
@@ -16,7 +15,7 @@ use table::wiring::Wiring;
 // Carries out a schedule on a table and a tally and fills the sheet, four bytes for each entry taken. A run refused at its start changes
 // no byte; one stopped at an entry keeps the work of the entries before it and no other.
 pub fn run(
-    wiring: usize,
+    wiring: Wiring,
     n: usize,
     table: &mut [u8],
     tally: Tally,
@@ -27,8 +26,8 @@ pub fn run(
         ≡ run wiring n (state_with table.old tally) schedule.now sheet.old }
 {
     // By hand and not by `?`, here and in `go_on`: the answer is no Result, since a run that is stopped keeps what it did.
-    let (wiring, n) = match check_start(wiring, n, table, schedule.len(), sheet.len()) {
-        Ok((wiring, lent)) => (wiring, lent.n),
+    let n = match check_start(wiring, n, table, schedule.len(), sheet.len()) {
+        Ok(lent) => lent.n,
         Err(refusal) => {
             return Ran {
                 taken: 0,
@@ -41,29 +40,28 @@ pub fn run(
     go_on(wiring, &mut lent, tally, schedule, sheet)
 }
 
-// Refusals 24 and 1 to 6; answers the wiring and the checked table.
+// Refusals 1 to 6; answers the checked table.
 #[tactic(auto, unfolding(crate::specs::Run::start_check))]
 fn check_start(
-    wiring: usize,
+    wiring: Wiring,
     n: usize,
     table: &[u8],
     schedule: usize,
     sheet: usize,
-) -> Result<(Wiring, Table<'_>), Refusal>
-    ensures check { result_map_both (λ s. tt) (λ r. r) result
+) -> Result<Table<'_>, Refusal>
+    ensures check { result_map_both (λ t. tt) (λ r. r) result
         ≡ start_check wiring n table.now schedule sheet }
-    ensures same_wiring { IfOk result (λ s. wiring_number s.0 ≡ wiring) }
-    ensures same_size { IfOk result (λ s. s.1.n ≡ n) }
-    ensures same_bytes { IfOk result (λ s. s.1.bytes.now ≡ table.now) }
+    ensures same_size { IfOk result (λ t. t.n ≡ n) }
+    ensures same_bytes { IfOk result (λ t. t.bytes.now ≡ table.now) }
 {
-    let wired = Table::checked_by_number(wiring, n, table)?;
+    let lent = Table::checked(wiring, n, table)?;
     if schedule % 2 == 1 {
         return Err(Refusal::ScheduleLength);
     }
     if schedule.checked_mul(2) != Some(sheet) {
         return Err(Refusal::SheetLength);
     }
-    Ok(wired)
+    Ok(lent)
 }
 
 // Takes the entries in order. `single` uses it too, so that an entry is taken in one place only, which the compiler then puts in line.
@@ -74,13 +72,12 @@ pub(crate) fn go_on(
     schedule: &[u8],
     sheet: &mut [u8],
 ) -> Ran
-    requires { let w = wiring_number wiring in
-        start_refusal w table.old.n table.old.bytes.now (length schedule.now) (length sheet.old) ≡ 0 }
+    requires { start_refusal wiring table.old.n table.old.bytes.now (length schedule.now) (length sheet.old)
+        ≡ 0 }
     ensures same_loan { IsSameLoan table.old table.new }
-    ensures run { let w = wiring_number wiring in
-        let s = state_with table.old.bytes.now tally in
+    ensures run { let s = state_with table.old.bytes.now tally in
         outcome_with result table.new.bytes.now sheet.new
-        ≡ go_on w table.old.n 0 s sheet.old (entries schedule.now) }
+        ≡ go_on wiring table.old.n 0 s sheet.old (entries schedule.now) }
 {
     let wired = Wired::new(wiring, table.n);
     // A table of its own, whose size and place stay in registers: behind the reference they are read again after each byte that is written.

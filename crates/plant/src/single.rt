@@ -2,8 +2,7 @@
 // `requires`.
 ghost use Rattle.std.specs.Prelude.{◌≡◌};
 ghost use Rattle.table.specs.Lent.{IsSameLoan};
-ghost use Rattle.table.specs.Wiring.{wiring_number};
-ghost use Rattle.table.specs.Rules.{numbered_table_refusal};
+ghost use Rattle.table.specs.Rules.{table_refusal};
 ghost use Rattle.plant.specs.Turn.{kind_turn};
 ghost use Rattle.plant.specs.Entry.{state_with, entry_of, entry_refusal, after};
 
@@ -16,14 +15,12 @@ use table::wiring::Wiring;
 
 // A turn of kind 1 of station i, with no line of a sheet: the rest of a run that has this one entry. The answer is the tally after it.
 pub fn take_turn(wiring: Wiring, table: &mut TableMut, tally: Tally, i: Station) -> Tally
-    requires table_obeys { let w = wiring_number wiring in
-        numbered_table_refusal w table.old.n table.old.bytes.now ≡ 0 }
+    requires table_obeys { table_refusal wiring table.old.n table.old.bytes.now ≡ 0 }
     requires turn_taken { entry_refusal table.old.n
         (state_with table.old.bytes.now tally) (entry_of kind_turn i.0) ≡ 0 }
     ensures same_loan { IsSameLoan table.old table.new }
-    ensures state_after { let w = wiring_number wiring in
-        state_with table.new.bytes.now result
-        ≡ after w table.old.n (state_with table.old.bytes.now tally) (entry_of kind_turn i.0) }
+    ensures state_after { state_with table.new.bytes.now result
+        ≡ after wiring table.old.n (state_with table.old.bytes.now tally) (entry_of kind_turn i.0) }
 {
     let entry = Entry {
         kind: Kind::Turn,

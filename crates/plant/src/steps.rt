@@ -2,10 +2,9 @@
 ghost use Rattle.std.specs.Prelude.{◌≡◌, ◌≢◌, ◌<◌};
 ghost use Rattle.table.specs.Lent.{IsSameLoan};
 ghost use Rattle.table.specs.Table.{tests_made, row, set_row};
-ghost use Rattle.table.specs.Wiring.{wiring_number};
 ghost use Rattle.station.specs.Wired.{wired_station};
 ghost use Rattle.station.specs.Rows.{union};
-ghost use Rattle.table.specs.Rules.{numbered_table_refusal};
+ghost use Rattle.table.specs.Rules.{table_refusal};
 ghost use Rattle.plant.specs.Kind.{kind_byte};
 ghost use Rattle.station.specs.Outcome.{tested_byte, outcome_byte};
 ghost use Rattle.plant.specs.Turn.{next_test, finish_pass, count_test, replies, exchange_rows, suspect, leave_told, reply_outcome, test_outcome};
@@ -24,16 +23,15 @@ use table::{Distance, Station, cells};
 // that ends a round, until it is closed, the table breaks rule Round not over, and between two writes to a line not even the line rules hold.
 pub(crate) fn take_turn(wired: Wired, table: &mut TableMut, kind: Kind, i: Station) -> Outcome
     requires same_size { wired.n ≡ table.old.n }
-    requires table_obeys { let w = wiring_number wired.wiring in
-        numbered_table_refusal w table.old.n table.old.bytes.now ≡ 0 }
+    requires table_obeys { table_refusal wired.wiring table.old.n table.old.bytes.now ≡ 0 }
     requires station_below { i.0 < table.old.n }
     ensures tested_station { tested_byte result
-        ≡ turn_tested (wiring_number wired.wiring) table.old.n table.old.bytes.now i.0 }
+        ≡ turn_tested wired.wiring table.old.n table.old.bytes.now i.0 }
     ensures outcome_number { outcome_byte result
-        ≡ turn_outcome (wiring_number wired.wiring) table.old.n table.old.bytes.now (kind_byte kind) i.0 }
+        ≡ turn_outcome wired.wiring table.old.n table.old.bytes.now (kind_byte kind) i.0 }
     ensures same_loan { IsSameLoan table.old table.new }
     ensures turn_made { table.new.bytes.now
-        ≡ turn (wiring_number wired.wiring) table.old.n table.old.bytes.now (kind_byte kind) i.0 }
+        ≡ turn wired.wiring table.old.n table.old.bytes.now (kind_byte kind) i.0 }
 {
     let m = next_test(wired, &table.read(), i);
     if wired.end <= m.0 {
@@ -48,8 +46,7 @@ pub(crate) fn take_turn(wired: Wired, table: &mut TableMut, kind: Kind, i: Stati
 fn next_test(wired: Wired, table: &Table, i: Station) -> Distance
     requires same_size { wired.n ≡ table.now.n }
     requires station_below { i.0 < table.now.n }
-    ensures { let w = wiring_number wired.wiring in
-        result.0 ≡ next_test w table.now.n table.now.bytes.now i.0 }
+    ensures { result.0 ≡ next_test wired.wiring table.now.n table.now.bytes.now i.0 }
 {
     wired.next_due(table.row(i), i, table.next_distance(i))
 }
@@ -61,7 +58,7 @@ fn finish_pass(wired: Wired, table: &mut TableMut, i: Station)
     requires station_below { i.0 < table.old.n }
     ensures same_loan { IsSameLoan table.old table.new }
     ensures pass_finished { table.new.bytes.now
-        ≡ finish_pass (wiring_number wired.wiring) table.old.n table.old.bytes.now i.0 }
+        ≡ finish_pass wired.wiring table.old.n table.old.bytes.now i.0 }
 {
     table.put(i, cells::NEXT, wired.end);
     table.put(i, cells::FINISHED, 1);
@@ -70,20 +67,18 @@ fn finish_pass(wired: Wired, table: &mut TableMut, i: Station)
 // Station i tests the station at distance m: the test is counted by its outcome, takes effect, and i leaves if it is alone.
 fn make_test(wired: Wired, table: &mut TableMut, kind: Kind, i: Station, m: Distance) -> Outcome
     requires same_size { wired.n ≡ table.old.n }
-    requires table_obeys { let w = wiring_number wired.wiring in
-        numbered_table_refusal w table.old.n table.old.bytes.now ≡ 0 }
+    requires table_obeys { table_refusal wired.wiring table.old.n table.old.bytes.now ≡ 0 }
     requires tester_below { i.0 < table.old.n }
     requires distance_above_0 { 0 < m.0 }
     requires distance_below { m.0 < wired.end }
-    requires tested_below { let w = wiring_number wired.wiring in
-        wired_station w table.old.n i.0 m.0 < table.old.n }
+    requires tested_below { wired_station wired.wiring table.old.n i.0 m.0 < table.old.n }
     ensures tested_station { tested_byte result
-        ≡ wired_station (wiring_number wired.wiring) table.old.n i.0 m.0 }
+        ≡ wired_station wired.wiring table.old.n i.0 m.0 }
     ensures outcome_number { outcome_byte result
-        ≡ outcome_at (wiring_number wired.wiring) table.old.n table.old.bytes.now (kind_byte kind) i.0 m.0 }
+        ≡ outcome_at wired.wiring table.old.n table.old.bytes.now (kind_byte kind) i.0 m.0 }
     ensures same_loan { IsSameLoan table.old table.new }
     ensures test_made { table.new.bytes.now
-        ≡ testing (wiring_number wired.wiring) table.old.n table.old.bytes.now (kind_byte kind) i.0 m.0 }
+        ≡ testing wired.wiring table.old.n table.old.bytes.now (kind_byte kind) i.0 m.0 }
 {
     let j = wired.station_at(i, m);
     let outcome = test_outcome(&table.read(), kind, i, j);
@@ -101,9 +96,8 @@ fn count_test(wired: Wired, table: &mut TableMut, i: Station, m: Distance, outco
     requires distance_fits { m.0 < 255 }
     requires tests_fit { tests_made table.old.n table.old.bytes.now i.0 < 255 }
     ensures same_loan { IsSameLoan table.old table.new }
-    ensures test_counted { let w = wiring_number wired.wiring in
-        table.new.bytes.now
-        ≡ count_test w table.old.n table.old.bytes.now i.0 m.0 (outcome_byte outcome) }
+    ensures test_counted { table.new.bytes.now
+        ≡ count_test wired.wiring table.old.n table.old.bytes.now i.0 m.0 (outcome_byte outcome) }
 {
     let tests = table.read().get(i, cells::TESTS);
     let next = wired.next_after(m, outcome);

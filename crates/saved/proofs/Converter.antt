@@ -13,6 +13,7 @@ use Rattle.lists.specs.Refusal.{Check, ensure, ◌and◌, number_of_result}
 use Rattle.lists.proofs.RefusalLaws.{ensure_ok, and_ok}
 use Rattle.table.specs.Sizes.{is_size}
 use Rattle.table.specs.Rules.{table_check}
+use Rattle.table.specs.declared.wiring.Wiring.TheVariants.{Cube}
 use Rattle.saved.specs.Fields.{runs_past, fields_of}
 use Rattle.saved.specs.Plant.{plant_check, lines_right}
 use Rattle.saved.specs.Load.{file_size, file_lines, file_table, loaded_of}
@@ -87,9 +88,9 @@ module _ (file b : List ℕ) where
       size : is_size (file_size file) ≡ true
       size = ap (λ l. is_size l.size) (sym known.1) ∙ old_right.1
 
-      judged : table_check (file_size file) own ≡ rules_check (file_size file) (file_table file)
+      judged : table_check Cube (file_size file) own ≡ rules_check (file_size file) (file_table file)
       judged =
-          ap (table_check (file_size file)) own_is
+          ap (table_check Cube (file_size file)) own_is
           ∙ rules-converted (file_size file) (file_table file) size (length-in (file_size file) (file_lines file) right)
 
       same_check : save_check x.size own x.tally (length b) ≡ convert_check file (length b)

@@ -14,8 +14,9 @@ use lib.Dec.{eqb}
 use Rattle.lists.proofs.BoolLaws.{by_bool, every-same}
 use Rattle.table.specs.Table.{line_start, cell}
 use Rattle.table.specs.Table.{stride as stride_2, table_length as table_length_2, suspects as suspects_2}
-use Rattle.table.specs.Rules.{exit_rule, suspicion_rule, shape_check, table_check_on, some_live, live_finished}
-use Rattle.table.specs.Rules.{row_rule as row_rule_2, line_rules as line_rules_2, wired_line_rules, round_over as round_over_2}
+use Rattle.table.specs.Rules.{exit_rule, suspicion_rule, shape_check, table_check, some_live, live_finished}
+use Rattle.table.specs.Rules.{row_rule as row_rule_2, line_rules as line_rules_2, round_over as round_over_2}
+use Rattle.table.specs.declared.wiring.Wiring.TheVariants.{Cube}
 use Rattle.saved.specs.Fields.{only_contents}
 use Rattle.saved.specs.Plant.{line_in, of_station, lines_right, table_in}
 use Rattle.saved.specs.Edition1.{head, stride, table_length, line_field_length, cell as cell_1, row_rule, line_rules, round_over, rules_check}
@@ -106,8 +107,8 @@ module _ (n : ℕ) (t : List ℕ) (long : length t ≡ table_length n) where
         (every-same (suspicion_rule n (converted_table n t) i) (λ k. nat_le (cell_1 n t i (head + k)) 1) n
         (λ k b. ap (λ (v : ℕ). nat_le v 1) (row-stays k b)))
 
-    rules-same : line_rules_2 n (converted_table n t) i ≡ line_rules n t i
-    unfolding wired_line_rules line_rules
+    rules-same : line_rules_2 Cube n (converted_table n t) i ≡ line_rules n t i
+    unfolding line_rules_2 line_rules
     rules-same =
         rw (
           head-stays 0 (omega arith),
@@ -129,7 +130,7 @@ module _ (n : ℕ) (t : List ℕ) (long : length t ≡ table_length n) where
       (every-same _ _ n (λ i h. rw (head-stays i h 0 (omega arith), head-stays i h 2 (omega arith))))
 
 pub rules-converted : RulesConverted
-unfolding table_check_on shape_check rules_check
+unfolding table_check shape_check rules_check
 rules-converted n t size long =
     let e = eq-eqb (length (converted_table n t)) (table_length_2 n) (length-converted n t long) in
     rw (size, e, every-same _ _ n (λ i h. rules-same n t long i h), over-same n t long)

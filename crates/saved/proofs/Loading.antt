@@ -17,6 +17,7 @@ use Rattle.table.specs.Sizes.{is_size}
 use Rattle.table.specs.Table.{stride, table_length, greatest_table}
 use Rattle.table.specs.Rules.{table_check}
 use Rattle.table.proofs.SizeLaws.{size-bounds}
+use Rattle.table.specs.declared.wiring.Wiring.TheVariants.{Cube}
 use Rattle.saved.specs.Fields.{runs_past, fields_of}
 use Rattle.saved.specs.Plant.{plant_check, line_field_length, lines_right, table_in}
 use Rattle.saved.specs.Order.{order_check}
@@ -134,12 +135,12 @@ module _ (n : ℕ) (cs : List (List ℕ)) (t : List ℕ) where
     long_err h = turned TableLength (rw (← right, ne_eqb (length t) (table_length n) h))
 
     module _ (own : List ℕ) (long : length t ≡ table_length n) (built : own ≡ table_in n cs) where
-      by_rules : rest_check n cs (length t) ≡ table_check n own
+      by_rules : rest_check n cs (length t) ≡ table_check Cube n own
       unfolding rest_check
       by_rules = rw (← right, eq-eqb (length t) (table_length n) long, built)
 
-      pub rules_err : (r : Refusal) → Err r ≡ table_check n own → Leaves (Err r) t
+      pub rules_err : (r : Refusal) → Err r ≡ table_check Cube n own → Leaves (Err r) t
       rules_err r h = turned r (by_rules ∙ sym h)
 
-      pub rules_ok : (v : Unit {0}) → Ok v ≡ table_check n own → Leaves (Ok v) own
+      pub rules_ok : (v : Unit {0}) → Ok v ≡ table_check Cube n own → Leaves (Ok v) own
       rules_ok v h = let z : rest_check n cs (length t) ≡ Ok v = by_rules ∙ sym h in rw z (refl, built)

@@ -19,6 +19,7 @@ use Rattle.lists.proofs.SearchLaws.{both}
 use Rattle.lists.proofs.RefusalLaws.{check_zero, ensure_ok, and_ok}
 use Rattle.table.specs.Table.{stride, line_start}
 use Rattle.table.specs.Rules.{table_refusal}
+use Rattle.table.specs.declared.wiring.Wiring.TheVariants.{Cube}
 use Rattle.saved.specs.Bytes.{bytes_value, bytes_of, concat_of}
 use Rattle.saved.specs.Fields.{Field, field, field_bytes, infront, length_in, extent, fields_up_to, fields, runs_past}
 use Rattle.saved.specs.Fields.{fields_of, tagged, only_one, only_contents}
@@ -259,7 +260,7 @@ record Opened (file : List ℕ) : Type 0 where
   follow : in_order nothing_before (after_opening (fields_of file)) ≡ true
   singles : size_and_tally (fields_of file) ≡ true
   right : lines_right (line_field_length (file_size file)) (file_size file) (file_lines file) ≡ true
-  sound : table_refusal (file_size file) (file_table file) ≡ 0
+  sound : table_refusal Cube (file_size file) (file_table file) ≡ 0
 
 opened : (file : List ℕ) (len : ℕ) → load_check file len ≡ Ok tt → Opened file
 unfolding load_check size_check order_check plant_check rest_check

@@ -19,9 +19,9 @@ use Rattle.lists.proofs.RefusalLaws.{check_zero}
 use Rattle.table.specs.Sizes.{is_size}
 use Rattle.table.specs.Table.{stride, table_length, line_start}
 use Rattle.table.specs.Rules.{table_check, table_refusal}
-use Rattle.table.specs.Wiring.{wiring_cube}
 use Rattle.table.proofs.Accepting.{accepted}
 use Rattle.table.proofs.SizeLaws.{size-bounds}
+use Rattle.table.specs.declared.wiring.Wiring.TheVariants.{Cube}
 use Rattle.plant.specs.declared.Tally.{Tally}
 use Rattle.saved.specs.Bytes.{bytes_value, bytes_of, concat_of}
 use Rattle.saved.specs.Fields.{Field, field_bytes, fields, runs_past, fields_of, tagged, only_one, only_contents}
@@ -148,12 +148,12 @@ ordered-lines n t (suc k) fs e =
     (weaker fs (record { tag = line_tag; station = suc k }) (record { tag = line_tag; station = k }) (omega arith) (omega arith) e))
 
 -- what a saved plant says
-module _ (n : ℕ) (t : List ℕ) (tally : Tally) (z : table_refusal n t ≡ 0) (small : IsTally tally) where
+module _ (n : ℕ) (t : List ℕ) (tally : Tally) (z : table_refusal Cube n t ≡ 0) (small : IsTally tally) where
   long : length t ≡ table_length n
-  long = (accepted wiring_cube n t z).long
+  long = (accepted Cube n t z).long
 
   size : is_size n ≡ true
-  size = (accepted wiring_cube n t z).size
+  size = (accepted Cube n t z).size
 
   abbrev plant_fields : List Field
   plant_fields = opening ∷ size_field n ∷ tally_field tally ∷ front (line_field n t) n []
@@ -225,7 +225,7 @@ module _ (n : ℕ) (t : List ℕ) (tally : Tally) (z : table_refusal n t ≡ 0) 
   load-ok len e =
       let right : lines_right (line_field_length n) n (tagged line_tag plant_fields) ≡ true = rw line-contents (lines-right n t long) in
       let same : eqb len (table_length n) ≡ true = eq-eqb len (table_length n) (e ∙ long) in
-      rw (size-ok, of-saved, table-restored, size-restored, right, same) (check_zero (table_check n t) z)
+      rw (size-ok, of-saved, table-restored, size-restored, right, same) (check_zero (table_check Cube n t) z)
 
 pub load-restores : LoadRestores
 unfolding saved_size load_answer load_after

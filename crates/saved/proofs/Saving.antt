@@ -13,26 +13,26 @@ use Rattle.lists.proofs.Writing.{sets-all}
 use Rattle.table.specs.Sizes.{is_size}
 use Rattle.table.specs.Table.{stride, table_length}
 use Rattle.table.specs.Rules.{table_check}
-use Rattle.table.specs.Wiring.{wiring_cube}
 use Rattle.table.proofs.Accepting.{table_ok}
 use Rattle.table.proofs.SizeLaws.{size-bounds}
+use Rattle.table.specs.declared.wiring.Wiring.TheVariants.{Cube}
 use Rattle.plant.specs.declared.Tally.{Tally}
 use Rattle.saved.specs.Save.{front_fields, saved_lines, saved, saved_length}
 use Rattle.saved.proofs.SaveLaws.{front-length, length-saved}
 use Rattle.saved.proofs.Copying.{sets_then}
 
 -- what is saved of a table that is not refused: its size is small, and its length known
-module _ (n : ℕ) (t : List ℕ) (x : Unit {0}) (e : table_check n t ≡ Ok x) where
+module _ (n : ℕ) (t : List ℕ) (x : Unit {0}) (e : table_check Cube n t ≡ Ok x) where
   pub save_low : (n ≤ 64) × (n * (stride n + 4) ≤ 64 * (stride 64 + 4))
   save_low =
-      let s = size-bounds n (table_ok wiring_cube n t x e).size in
+      let s = size-bounds n (table_ok Cube n t x e).size in
       (s.1, mul-le-mul {n₁ = n} {m₁ = stride n + 4} {n₂ = 64} {m₂ = stride 64 + 4} s.1 (omega arith))
 
   pub save_table : (is_size n ≡ true) × (length t ≡ table_length n)
-  save_table = let a = table_ok wiring_cube n t x e in (a.size, a.long)
+  save_table = let a = table_ok Cube n t x e in (a.size, a.long)
 
   pub save_long : (tally : Tally) → length (saved n t tally) ≡ saved_length n
-  save_long tally = length-saved n t (table_ok wiring_cube n t x e).long tally
+  save_long tally = length-saved n t (table_ok Cube n t x e).long tally
 
   pub save_done : (tally : Tally) (b u v : List ℕ) → length b ≡ saved_length n
       → u ≡ sets b 0 (front_fields n tally) → v ≡ sets u 19 (saved_lines n t n) → v ≡ saved n t tally

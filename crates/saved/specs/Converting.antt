@@ -5,6 +5,7 @@ use mathlib.Core.List.{List, Permᴰ}
 use Rattle.table.specs.Sizes.{is_size}
 use Rattle.table.specs.Table.{table_length}
 use Rattle.table.specs.Rules.{table_check}
+use Rattle.table.specs.declared.wiring.Wiring.TheVariants.{Cube}
 use Rattle.saved.specs.Fields.{runs_past, fields_of}
 use Rattle.saved.specs.Load.{file_size, load_answer, load_after}
 use Rattle.saved.specs.Save.{saved_length}
@@ -16,7 +17,7 @@ use Rattle.saved.specs.Files.{AreBytes}
 -- refusals 3 and 4 of edition 1 are those of the converted table
 abbrev pub RulesConverted : Type 0
 RulesConverted =
-    (n : ℕ) (t : List ℕ) → is_size n ≡ true → length t ≡ old_table_length n → table_check n (converted_table n t) ≡ rules_check n t
+    (n : ℕ) (t : List ℕ) → is_size n ≡ true → length t ≡ old_table_length n → table_check Cube n (converted_table n t) ≡ rules_check n t
 
 -- the converter takes just the files that the reader of edition 1 took and that have no other tags: into a buffer b of a saved plant's length,
 -- where that reader had a table t of the right length

@@ -8,8 +8,9 @@ use Rattle.lists.specs.declared.refusal.Refusal.TheVariants.{TableLength, LineRu
 use Rattle.lists.specs.Refusal.{Check, ensure, ◌and◌, number_of_result, unless_refused}
 use Rattle.lists.specs.Search.{every}
 use Rattle.table.specs.Table.{status_column, next_column, finished_column, tests_column, status_told, told_by_none, not_recorded}
-use Rattle.table.specs.Wiring.{wiring_cube, end_distance}
+use Rattle.table.specs.Wiring.{end_distance}
 use Rattle.table.specs.Rules.{status_rule, pass_rule}
+use Rattle.table.specs.declared.wiring.Wiring.TheVariants.{Cube}
 use Rattle.saved.specs.Bytes.{concat_of}
 use Rattle.saved.specs.Fields.{runs_past, fields_of}
 use Rattle.saved.specs.Plant.{plant_check, lines_right}
@@ -46,7 +47,7 @@ row_rule n t i = suspects n t i i == 0 && every (λ k. nat_le (suspects n t i k)
 unfoldable pub line_rules : ℕ → List ℕ → ℕ → Bool
 line_rules n t i =
     status_rule (cell n t i status_column)
-    && pass_rule (end_distance wiring_cube n) (cell n t i next_column) (cell n t i finished_column) (cell n t i tests_column) && row_rule n t i
+    && pass_rule (end_distance Cube n) (cell n t i next_column) (cell n t i finished_column) (cell n t i tests_column) && row_rule n t i
 
 -- station i is not live
 abbrev pub not_live : ℕ → List ℕ → ℕ → Bool

@@ -7,6 +7,7 @@ use Rattle.lists.specs.declared.refusal.Refusal.TheVariants.{TableLength, FieldP
 use Rattle.lists.specs.Refusal.{Check, ensure, ◌and◌, number_of_result, unless_refused}
 use Rattle.table.specs.Table.{table_length}
 use Rattle.table.specs.Rules.{table_check}
+use Rattle.table.specs.declared.wiring.Wiring.TheVariants.{Cube}
 use Rattle.saved.specs.Fields.{Field, runs_past, fields_of, tagged}
 use Rattle.saved.specs.Plant.{size_in, tally_in, plant_check, line_tag, line_field_length, lines_right, table_in}
 use Rattle.saved.specs.Order.{order_check}
@@ -34,7 +35,7 @@ size_check file = ensure (not (runs_past file)) FieldPastEnd and order_check (fi
 -- right length, so that of table_check's refusals only 3 and 4 are left
 unfoldable pub rest_check : ℕ → List (List ℕ) → ℕ → Check
 rest_check n cs len =
-    ensure (lines_right (line_field_length n) n cs) LineField and ensure (len == table_length n) TableLength and table_check n (table_in n cs)
+    ensure (lines_right (line_field_length n) n cs) LineField and ensure (len == table_length n) TableLength and table_check Cube n (table_in n cs)
 
 -- Rule Judged as a whole: all refusals of the reader
 unfoldable pub load_check : List ℕ → ℕ → Check

@@ -4,6 +4,7 @@ use Rattle.std.specs.Prelude.{ℕ, ◌+◌, ◌*◌, List, [], ◌∷◌, ◌++�
 use Rattle.lists.specs.Refusal.{Check, ◌and◌, number_of_result, unless_refused}
 use Rattle.table.specs.Table.{stride, line_start}
 use Rattle.table.specs.Rules.{table_check, length_check}
+use Rattle.table.specs.declared.wiring.Wiring.TheVariants.{Cube}
 use Rattle.plant.specs.declared.Tally.{Tally}
 use Rattle.saved.specs.Bytes.{bytes_of, concat_of}
 use Rattle.saved.specs.Fields.{Field, field, field_bytes}
@@ -41,7 +42,7 @@ abbrev pub saved_length : ℕ → ℕ
 saved_length n = 19 + n * (n + 10)
 
 unfoldable pub save_check : ℕ → List ℕ → Tally → ℕ → Check
-save_check n t tally len = table_check n t and length_check (length (saved n t tally)) len
+save_check n t tally len = table_check Cube n t and length_check (length (saved n t tally)) len
 
 abbrev pub save_refusal : ℕ → List ℕ → Tally → ℕ → ℕ
 save_refusal n t tally len = number_of_result (save_check n t tally len)

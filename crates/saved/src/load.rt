@@ -8,6 +8,7 @@ use crate::edition::Edition;
 use crate::{Loaded, first_pass, lines};
 use lists::refusal::Refusal;
 use table::lent::TableMut;
+use table::wiring::Wiring;
 use table::{cells, rules};
 
 // The size of a saved plant, or its refusal 18, 21, 22, 19 or 1.
@@ -49,7 +50,7 @@ fn read_table(
     if table.len() != own.len() {
         return Err(Refusal::TableLength);
     }
-    rules::check_table(n as usize, own)?;
+    rules::check_table(Wiring::Cube, n as usize, own)?;
     table.copy_from_slice(own);
     Ok(())
 }

@@ -12,6 +12,7 @@ use lists::refusal::Refusal;
 use plant::Tally;
 use table::cells;
 use table::lent::Table;
+use table::wiring::Wiring;
 
 // The bytes of the opening, the size field and the tally field.
 const FRONT: usize = 19;
@@ -25,7 +26,7 @@ pub fn save(n: usize, table: &[u8], tally: Tally, buffer: &mut [u8]) -> Result<(
     ensures check { result ≡ save_check n table.now tally (length buffer.old) }
     ensures buffer_after { buffer.new ≡ save_after n table.now tally buffer.old }
 {
-    let table = Table::checked(n, table)?;
+    let table = Table::checked(Wiring::Cube, n, table)?;
     if buffer.len() != saved_length(table.n) {
         return Err(Refusal::ListLength);
     }

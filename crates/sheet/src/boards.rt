@@ -8,6 +8,7 @@ ghost use Rattle.latency.specs.Figures.{most_until_known};
 use crate::call::WrongCall;
 use input::reading;
 use latency::figures;
+use station::due;
 use table::{Station, sizes};
 
 // The size, and the row of each live board: 1 at each dead one.
@@ -110,10 +111,9 @@ impl Plant {
     }
 
     // Whether board x is there and not dead.
-    #[tactic(auto, unfolding(station::specs::Tests::unsuspected))]
     pub fn is_live(&self, x: Station) -> bool
         ensures { result ≡ unsuspected (take self.now.size self.now.row) x.0 }
     {
-        self.row().get(x.0 as usize).copied().unwrap_or(1) == 0
+        due::is_unsuspected(self.row(), x)
     }
 }

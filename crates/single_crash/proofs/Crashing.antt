@@ -14,15 +14,14 @@ use lib.Seq.{ext_get_or}
 use Rattle.lists.specs.Sums.{bit}
 use Rattle.lists.proofs.BoolLaws.{by_bool}
 use Rattle.lists.proofs.SearchLaws.{both, list_of-length, list_of-at}
-use Rattle.std.specs.Prelude.{Ok}
 use Rattle.table.specs.Sizes.{is_size}
-use Rattle.table.specs.Wiring.{wiring_check}
 use Rattle.table.specs.Table.{head, stride, cell, status_column, finished_column, tests_column, finished, suspects, live, row}
 use Rattle.table.specs.Table.{status_crashed}
 use Rattle.table.specs.Rules.{not_live, round_over}
 use Rattle.table.specs.Properties.{exact_row}
 use Rattle.table.proofs.SizeLaws.{size-bounds}
 use Rattle.table.proofs.CellLaws.{cell_same, cell_other, row-length, row_at, accepted-line}
+use Rattle.table.specs.declared.wiring.Wiring.{Wiring}
 use Rattle.plant.specs.Turn.{crash}
 use Rattle.plant.specs.Round.{reset_lines, after_round}
 use Rattle.plant.specs.Entry.{state_of, acted, after}
@@ -46,19 +45,17 @@ everyone i = true
 abbrev pub all_but : ℕ → ℕ → Bool
 all_but b i = not (eqb i b)
 
-pub everyone-crew : (w n : ℕ) → wiring_check w ≡ Ok tt → is_size n ≡ true → Crew w n everyone
-everyone-crew w n wired size =
+pub everyone-crew : (w : Wiring) (n : ℕ) → is_size n ≡ true → Crew w n everyone
+everyone-crew w n size =
     let two = (size-bounds n size).0 in
     record {
-      wired = wired;
       size = size;
       company = λ i h l. by_cases (ℕ_discrete i 0) (λ e. (1, omega arith, omega arith, refl)) (λ d. (0, omega arith, d, refl));
       someone = (0, omega arith, refl);
     }
 
-pub others-crew : (w n b : ℕ) → wiring_check w ≡ Ok tt → is_size n ≡ true → 3 ≤ n → Crew w n (all_but b)
-others-crew w n b wired size three = record {
-  wired = wired;
+pub others-crew : (w : Wiring) (n b : ℕ) → is_size n ≡ true → 3 ≤ n → Crew w n (all_but b)
+others-crew w n b size three = record {
   size = size;
   company = λ i h l. third i;
   someone = let z = third b in (z.0, z.1, z.3);
@@ -80,21 +77,21 @@ others-crew w n b wired size three = record {
         (λ f. at i 0 (omega arith) d f))
 
 -- a sound plant
-pub sound-fresh : (w n : ℕ) (p : Stand) → Sound w n p → (i : ℕ) → i < n → Reset n p.state.table i
+pub sound-fresh : (w : Wiring) (n : ℕ) (p : Stand) → Sound w n p → (i : ℕ) → i < n → Reset n p.state.table i
 sound-fresh w n p given =
     (first_round w n p.state.table (grantable w n p.state.table p.last given.granted).ok given.start (λ i j h k a c. given.nobody i j h k)).fresh
 
-pub sound-run : (w n : ℕ) (p : Stand) → Sound w n p → Running w n everyone (following p.last) p
+pub sound-run : (w : Wiring) (n : ℕ) (p : Stand) → Sound w n p → Running w n everyone (following p.last) p
 sound-run w n p given =
     let g = grantable w n p.state.table p.last given.granted in
-    begin w n everyone (everyone-crew w n g.ok.wired g.ok.size) p (record {
+    begin w n everyone (everyone-crew w n g.ok.size) p (record {
       lines = (g.ok.long, accepted-line w n p.state.table g.ok);
       lives = given.all_live;
       accurate = λ i j h k a c. given.nobody i j h k;
     }) (sound-fresh w n p given) g.last_fits
 
 -- b crashes in a plant whose boards are all live, and in which nobody suspects anybody
-module _ (w n b begins : ℕ) (q : Stand) (crew : Crew w n (all_but b)) (hb : b < n) (r : Running w n everyone begins q) where
+module _ (w : Wiring) (n b begins : ℕ) (q : Stand) (crew : Crew w n (all_but b)) (hb : b < n) (r : Running w n everyone begins q) where
   abbrev t : List ℕ
   t = q.state.table
 
@@ -179,7 +176,7 @@ module _ (w n b begins : ℕ) (q : Stand) (crew : Crew w n (all_but b)) (hb : b 
       (omega (arith, at finished_column (omega arith) (omega arith), at tests_column (omega arith) (omega arith)))
 
 -- where every live board suspects every dead one, b is known
-pub known-dead : (w n b : ℕ) (t : List ℕ) → Plain w n (all_but b) t → Exact n (all_but b) t → KnownDead n t b
+pub known-dead : (w : Wiring) (n b : ℕ) (t : List ℕ) → Plain w n (all_but b) t → Exact n (all_but b) t → KnownDead n t b
 unfolding exact_row
 known-dead w n b t p exact = record {
   others_live = p.lives;

@@ -12,6 +12,7 @@ use lib.Dec.{eqb}
 use Rattle.lists.proofs.BoolLaws.{by_bool, choice}
 use Rattle.table.specs.Rules.{some_live, round_over}
 use Rattle.table.proofs.Accepting.{Accepted}
+use Rattle.table.specs.declared.wiring.Wiring.{Wiring}
 use Rattle.plant.specs.Turn.{kind_turn, kind_crash}
 use Rattle.plant.specs.Entry.{State, entry_of, acted, after}
 use Rattle.granter.specs.Grant.{grant_refusal, following}
@@ -23,13 +24,13 @@ use Rattle.single_crash.proofs.Running.{Crew, Running, some-live, runs-after}
 use Rattle.single_crash.proofs.Crashing.{everyone, all_but, everyone-crew, others-crew, sound-run, crash-runs}
 
 -- one drive is the grants that it makes
-drive-is : (w n : ℕ) (q : Stand)
+drive-is : (w : Wiring) (n : ℕ) (q : Stand)
     → stand_at (drive w n q.state q.last).state (drive w n q.state q.last).last ≡ after_grants w n q (drive w n q.state q.last).grants
 unfolding drive outcome_after after_grants
 drive-is w n q = by_bool (eqb (grant_refusal w n q.state.table q.last) 0) (λ e. rw e refl) (λ e. rw e refl)
 
 -- grants behind grants
-grants-add : (w n : ℕ) (p : Stand) (a b : ℕ) → after_grants w n (after_grants w n p a) b ≡ after_grants w n p (a + b)
+grants-add : (w : Wiring) (n : ℕ) (p : Stand) (a b : ℕ) → after_grants w n (after_grants w n p a) b ≡ after_grants w n p (a + b)
 unfolding after_grants
 grants-add w n p a zero = let e : a + 0 ≡ a = omega arith in rw e refl
 grants-add w n p a (suc b) =
@@ -46,7 +47,7 @@ drives-are-grants w n p (suc k) =
     ∙ grants-add w n p (grants_of_drives w n p k) (next_drive w n p k).grants)
 
 -- a drive that answers 0 has ended
-ends-zero : (w n : ℕ) (q : Stand) → (drive w n q.state q.last).number ≡ 0
+ends-zero : (w : Wiring) (n : ℕ) (q : Stand) → (drive w n q.state q.last).number ≡ 0
     → ended n q.state.rounds (after_grants w n q (drive w n q.state q.last).grants).state ≡ true
 unfolding drive outcome_after
 ends-zero w n q =
@@ -56,18 +57,18 @@ ends-zero w n q =
     (λ e. rw e (λ zero. absurd (true≢false (sym (eq-eqb _ 0 zero) ∙ e))))
 
 -- the tally's rounds only grow
-rounds-turn : (w n : ℕ) (q : Stand) → q.state.rounds ≤ (grant_turn w n q).state.rounds
+rounds-turn : (w : Wiring) (n : ℕ) (q : Stand) → q.state.rounds ≤ (grant_turn w n q).state.rounds
 unfolding grant_turn after
 rounds-turn w n q =
     let t' : List ℕ = acted w n q.state.table (entry_of kind_turn (granted_at n q)) in
     choice (λ (r : ℕ). q.state.rounds ≤ r) (round_over n t') (omega arith) (omega arith)
 
-rounds-grants : (w n : ℕ) (q : Stand) (k : ℕ) → q.state.rounds ≤ (after_grants w n q k).state.rounds
+rounds-grants : (w : Wiring) (n : ℕ) (q : Stand) (k : ℕ) → q.state.rounds ≤ (after_grants w n q k).state.rounds
 unfolding after_grants
 rounds-grants w n q zero = omega arith
 rounds-grants w n q (suc k) = omega (arith, rounds-grants w n q k, rounds-turn w n (after_grants w n q k))
 
-rounds-crash : (w n b : ℕ) (q : Stand) → q.state.rounds ≤ (crash_at w n q b).state.rounds
+rounds-crash : (w : Wiring) (n b : ℕ) (q : Stand) → q.state.rounds ≤ (crash_at w n q b).state.rounds
 unfolding crash_at after
 rounds-crash w n b q =
     let t' : List ℕ = acted w n q.state.table (entry_of kind_crash b) in
@@ -79,19 +80,19 @@ unfolding ended
 closes-one n rounds s someone le e =
     by_cases (ℕ_discrete s.rounds rounds) (λ same. absurd (true≢false (sym e ∙ rw (someone, eq-eqb s.rounds rounds same) refl))) (λ d. omega arith)
 
-module _ (w n b : ℕ) (three : 3 ≤ n) (p : Stand) (k : ℕ) (given : Sound w n p) (hb : b < n) where
+module _ (w : Wiring) (n b : ℕ) (three : 3 ≤ n) (p : Stand) (k : ℕ) (given : Sound w n p) (hb : b < n) where
   ok : Accepted w n p.state.table
   ok = (grantable w n p.state.table p.last given.granted).ok
 
   team : Crew w n (all_but b)
-  team = others-crew w n b ok.wired ok.size three
+  team = others-crew w n b ok.size three
 
   abbrev q : Stand
   q = crash_at w n (after_grants w n p k) b
 
   runs : (c : ℕ) × Running w n (all_but b) c q
   runs =
-      let before = runs-after w n everyone (everyone-crew w n ok.wired ok.size) (following p.last) p (sound-run w n p given) k in
+      let before = runs-after w n everyone (everyone-crew w n ok.size) (following p.last) p (sound-run w n p given) k in
       crash-runs w n b before.0 (after_grants w n p k) team hb before.1
 
   live-after : (g : ℕ) → some_live n (after_grants w n q g).state.table ≡ true

@@ -30,8 +30,8 @@ someone n pos = rw (every-not (not_live n (fresh_table n)) n 0 pos (rw (lives n 
 
 -- an end in itself
 pub fresh-is-sound : FreshIsSound
-fresh-is-sound w n rounds tests last wired size fits = record {
-  granted = grant-zero w n (fresh_table n) last (fresh-accepted n w wired size) fits (someone n (omega (arith, size-bounds n size)));
+fresh-is-sound w n rounds tests last size fits = record {
+  granted = grant-zero w n (fresh_table n) last (fresh-accepted n w size) fits (someone n (omega (arith, size-bounds n size)));
   start = fresh_start n;
   all_live = lives n;
   nobody = λ i j h l. rows n i j h l;

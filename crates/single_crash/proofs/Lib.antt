@@ -1,4 +1,4 @@
--- The laws that the proofs of `single_crash` share: of grants and sweeps, of the crash, then of the ring.
+-- The laws that the proofs of `single_crash` share.
 pub mod Sweeps
 pub mod SweepLaw
 pub mod Running
@@ -15,3 +15,17 @@ pub mod RingKnown
 pub mod Unaware
 pub mod RingSlow
 pub mod RingReach
+pub mod CubeDue
+pub mod CubePace
+pub mod CubeLearn
+pub mod CubeWays
+pub mod Heard
+pub mod CubeRun
+pub mod CubeNear
+pub mod CubeStages
+pub mod CubeCrash
+pub mod CubeWhole
+pub mod CubeKnown
+pub mod CubeOrder
+pub mod CubeSlowest
+pub mod BoundLaws

@@ -9,10 +9,10 @@ use Rattle.lists.specs.Sums.{sum_below}
 use Rattle.lists.proofs.BoolLaws.{by_bool}
 use Rattle.lists.proofs.SumLaws.{sum-zero}
 use Rattle.table.specs.Sizes.{is_size}
-use Rattle.table.specs.Wiring.{wiring_ring}
 use Rattle.table.specs.Table.{finished_column, next_distance, finished, tests_made, suspects}
 use Rattle.table.specs.Rules.{round_over}
 use Rattle.table.proofs.SizeLaws.{size-bounds}
+use Rattle.table.specs.declared.wiring.Wiring.TheVariants.{Ring}
 use Rattle.plant.specs.Turn.{kind_turn, next_test, makes_test, outcome_at, turn}
 use Rattle.plant.proofs.RoundLaws.{Reset}
 use Rattle.granter.specs.Drive.{Stand, granted_at, grant_turn, after_grants}
@@ -24,9 +24,10 @@ use Rattle.single_crash.specs.Sweeps.{turns_made}
 use Rattle.single_crash.proofs.Running.{Crew, Running, chosen, is_live, going, kept, heads, moved, closes, goes_on}
 use Rattle.single_crash.proofs.Crashing.{everyone, everyone-crew}
 use Rattle.single_crash.proofs.Passes.{Reaches, Passing, made-most, passing-start, PassTurn, passing-turn, turn-left, turns_left, left-turn}
+use Rattle.table.specs.declared.wiring.Wiring.{Wiring}
 
-abbrev w : ℕ
-w = wiring_ring
+abbrev w : Wiring
+w = Ring
 
 -- the passes of a table, where each live board has so many tests to make
 abbrev pub PassesOf : ℕ → (ℕ → Bool) → (ℕ → ℕ) → List ℕ → Type 0
@@ -148,13 +149,13 @@ before-fresh n begins q two fresh run = record {
 pub before-on : (n : ℕ) (size : is_size n ≡ true) (begins : ℕ) (q : Stand) → Before n begins q
     → round_over n (turn w n q.state.table kind_turn (granted_at n q)) ≡ false → Before n begins (grant_turn w n q)
 before-on n size begins q before unclosed =
-    let crew = everyone-crew w n refl size in
+    let crew = everyone-crew w n size in
     let c = goes_on w n everyone crew begins q before.run unclosed in
     record { run = c.running; passes = rw c.table (passes-on n everyone crew begins q before.run one before.passes) }
 
 pub before-step : (n : ℕ) → is_size n ≡ true → (begins : ℕ) (q : Stand) → Before n begins q → (c : ℕ) × Before n c (grant_turn w n q)
 before-step n size begins q before =
-    let crew = everyone-crew w n refl size in
+    let crew = everyone-crew w n size in
     by_bool (round_over n (turn w n q.state.table kind_turn (granted_at n q)))
     (λ over.
     let c = closes w n everyone crew begins q before.run over in

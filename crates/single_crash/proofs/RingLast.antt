@@ -9,9 +9,9 @@ use native.Mathlib.Decide.{ℕ_discrete}
 use native.Mathlib.Omega.{arith}
 use Rattle.lists.proofs.BoolLaws.{by_bool}
 use Rattle.lists.proofs.SearchLaws.{every-all}
-use Rattle.table.specs.Wiring.{wiring_ring}
 use Rattle.table.specs.Table.{finished_column, next_distance, finished, tests_made}
 use Rattle.table.specs.Rules.{finished_if_live, live_finished, round_over}
+use Rattle.table.specs.declared.wiring.Wiring.TheVariants.{Ring}
 use Rattle.plant.specs.Turn.{kind_turn, turn}
 use Rattle.granter.specs.Grant.{waits}
 use Rattle.granter.specs.Fairness.{stations_before}
@@ -22,9 +22,10 @@ use Rattle.single_crash.proofs.Sweeps.{place-one, place-below, sweep-fewest, swe
 use Rattle.single_crash.proofs.Running.{Crew, Running, some-live, chosen, kept, heads, next, moved}
 use Rattle.single_crash.proofs.Passes.{made-most}
 use Rattle.single_crash.proofs.OnRing.{PassesOf, passes-on, one}
+use Rattle.table.specs.declared.wiring.Wiring.{Wiring}
 
-abbrev w : ℕ
-w = wiring_ring
+abbrev w : Wiring
+w = Ring
 
 module _ (n : ℕ) (L : ℕ → Bool) (crew : Crew w n L) (begins : ℕ) (p : Stand) (r : Running w n L begins p) (pass : PassesOf n L one p.state.table)
     (z : ℕ) (hz : z < n) (lz : L z ≡ true) (last : stations_before n begins z ≡ n - 1) (open-still : finished n p.state.table z ≡ 0) where

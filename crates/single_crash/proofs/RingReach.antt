@@ -16,12 +16,12 @@ use Rattle.lists.specs.Search.{list_of}
 use Rattle.lists.proofs.SearchLaws.{list_of-at}
 use Rattle.lists.proofs.SumLaws.{sum_by, sum-add, sum-const}
 use Rattle.table.specs.Sizes.{is_size}
-use Rattle.table.specs.Wiring.{wiring_ring}
 use Rattle.table.specs.Table.{head, stride, cell, finished_column, next_distance, finished, tests_made, suspects, live}
 use Rattle.table.specs.Rules.{not_live, round_over}
 use Rattle.table.specs.Properties.{exact_row}
 use Rattle.table.specs.Fresh.{fresh_table}
 use Rattle.table.proofs.CellLaws.{row_at}
+use Rattle.table.specs.declared.wiring.Wiring.TheVariants.{Ring}
 use Rattle.plant.specs.Entry.{state_of}
 use Rattle.station.proofs.WiredLaws.{place_before, place_behind}
 use Rattle.plant.specs.Turn.{kind_turn, turn, crash}
@@ -40,13 +40,14 @@ use Rattle.single_crash.proofs.Passes.{made-most, turns_left}
 use Rattle.single_crash.proofs.Around.{BeginsAt, place-zero, place-next}
 use Rattle.single_crash.proofs.Around as around
 use Rattle.single_crash.proofs.OnRing.{left_of, one, Before, one-less, none-left, before-on}
-use Rattle.single_crash.proofs.RingStages.{Ring, crew, at_place, sum-at, crash-waiting}
+use Rattle.single_crash.proofs.RingStages.{Board, crew, at_place, sum-at, crash-waiting}
 use Rattle.single_crash.proofs.RingKnown.{sound-before}
 use Rattle.single_crash.proofs.RingSlow.{WaitingSlow, Slow, slow_waiting, slow-unaware, slow-rounds, slow-after}
 use Rattle.single_crash.proofs.FreshSound.{fresh-is-sound}
+use Rattle.table.specs.declared.wiring.Wiring.{Wiring}
 
-abbrev w : ℕ
-w = wiring_ring
+abbrev w : Wiring
+w = Ring
 
 -- a plant that has just been started: a fresh table, and nobody was granted yet
 abbrev started : ℕ → Stand
@@ -59,8 +60,8 @@ module _ (n : ℕ) (size : is_size n ≡ true) (four : 4 ≤ n) where
   hb : 2 < n
   hb = omega arith
 
-  ring : Ring n 2
-  ring = record { size = size; four = four; hb = hb }
+  board : Board n 2
+  board = record { size = size; four = four; hb = hb }
 
   -- the boards before board 2
   a-is : around.before n 2 ≡ 1
@@ -103,8 +104,8 @@ module _ (n : ℕ) (size : is_size n ≡ true) (four : 4 ≤ n) where
     at-x : g ≡ x
     at-x =
         let r = s.before.run in
-        let chain = next w n everyone (everyone-crew w n refl size) 0 p r in
-        let g<n = (chosen w n everyone (everyone-crew w n refl size) 0 p r).0 in
+        let chain = next w n everyone (everyone-crew w n size) 0 p r in
+        let g<n = (chosen w n everyone (everyone-crew w n size) 0 p r).0 in
         let zero : turns_made n t x ≡ 0 = s.turns x (omega arith) ∙ none in
         let few = sweep-fewest n 0 (waits n t) (turns_made n t) p.last g r.fits r.sweep chain x (omega arith) x-waits in
         let same : turns_made n t g ≡ 0 = omega arith in
@@ -114,7 +115,7 @@ module _ (n : ℕ) (size : is_size n ≡ true) (four : 4 ≤ n) where
 
     pub one-open : round_over n t' ≡ false
     one-open =
-        let crew = everyone-crew w n refl size in
+        let crew = everyone-crew w n size in
         let r = s.before.run in
         by_bool (round_over n t')
         (λ over.
@@ -123,7 +124,7 @@ module _ (n : ℕ) (size : is_size n ≡ true) (four : 4 ≤ n) where
 
     pub first-on : (made' : ℕ → ℕ) → made' x ≡ 1 → ((i : ℕ) → i ≢ x → made' i ≡ made i) → First (grant_turn w n p) made'
     first-on made' own same =
-        let crew = everyone-crew w n refl size in
+        let crew = everyone-crew w n size in
         let r = s.before.run in
         let m = moved w n everyone crew 0 p r in
         let o = goes_on w n everyone crew 0 p r one-open in
@@ -136,7 +137,7 @@ module _ (n : ℕ) (size : is_size n ≡ true) (four : 4 ≤ n) where
 
     pub first-left : suc (left_of n everyone one (grant_turn w n p).state.table) ≡ left_of n everyone one t
     first-left =
-        let crew = everyone-crew w n refl size in
+        let crew = everyone-crew w n size in
         let r = s.before.run in
         rw (goes_on w n everyone crew 0 p r one-open).table (one-less n everyone crew 0 p r one s.before.passes)
 
@@ -147,7 +148,7 @@ module _ (n : ℕ) (size : is_size n ≡ true) (four : 4 ≤ n) where
   first-start : First (started n) none-yet
   unfolding none-yet following
   first-start =
-      let sound = fresh-is-sound w n 0 0 no_grant refl size (none-fits n) in
+      let sound = fresh-is-sound w n 0 0 no_grant size (none-fits n) in
       record { before = sound-before n (started n) sound; turns = none-made w n (started n) sound.granted sound.start }
 
   left-start : left_of n everyone one (started n).state.table ≡ n * 2
@@ -208,8 +209,8 @@ module _ (n : ℕ) (size : is_size n ≡ true) (four : 4 ≤ n) where
   crash-open =
       by_bool (round_over n v')
       (λ over.
-      let done = all-finished w n L v' (crash-plain w n 2 0 p₂ (crew n 2 ring) hb run) over 3 (omega arith) refl in
-      let same = crash-same w n 2 0 p₂ (crew n 2 ring) hb run 3 finished_column (omega arith) (omega arith) in
+      let done = all-finished w n L v' (crash-plain w n 2 0 p₂ (crew n 2 board) hb run) over 3 (omega arith) refl in
+      let same = crash-same w n 2 0 p₂ (crew n 2 board) hb run 3 finished_column (omega arith) (omega arith) in
       absurd (omega (arith, done, same, unmade 3 (omega arith) (omega arith))))
       (λ o. o)
 
@@ -217,7 +218,7 @@ module _ (n : ℕ) (size : is_size n ≡ true) (four : 4 ≤ n) where
   q = crash_at w n p₂ 2
 
   turns-now : (i : ℕ) → i < n → turns_made n q.state.table i ≡ both-made i
-  turns-now i h = crash-turns w n 2 0 p₂ (crew n 2 ring) hb run crash-open i ∙ first-1.turns i h
+  turns-now i h = crash-turns w n 2 0 p₂ (crew n 2 board) hb run crash-open i ∙ first-1.turns i h
 
   -- 2n − 4 turns are left
   left-now : left_of n L one q.state.table + 4 ≡ n * 2
@@ -253,12 +254,12 @@ module _ (n : ℕ) (size : is_size n ≡ true) (four : 4 ≤ n) where
       (λ e. omega (arith, first-1.before.passes.range 1 (omega arith))) in
       omega (arith, ap (λ (i : ℕ). tests_made n v i) a-is, one-test)
 
-  slow : WaitingSlow n 2 ring 0 q
+  slow : WaitingSlow n 2 board 0 q
   slow =
-      let o = crash-goes_on w n 2 0 p₂ (crew n 2 ring) hb run crash-open in
-      let same : (k c : ℕ) → 1 ≤ c → c < stride n → cell n v' k c ≡ cell n v k c = crash-same w n 2 0 p₂ (crew n 2 ring) hb run in
+      let o = crash-goes_on w n 2 0 p₂ (crew n 2 board) hb run crash-open in
+      let same : (k c : ℕ) → 1 ≤ c → c < stride n → cell n v' k c ≡ cell n v k c = crash-same w n 2 0 p₂ (crew n 2 board) hb run in
       record {
-        waiting = crash-waiting n 2 ring 0 p₂ first-1.before crash-open tested;
+        waiting = crash-waiting n 2 board 0 p₂ first-1.before crash-open tested;
         from = inl (sym d-is);
         unfinished =
             rw (o.table, z-is)
@@ -266,16 +267,16 @@ module _ (n : ℕ) (size : is_size n ≡ true) (four : 4 ≤ n) where
         unaware = λ k h l. rw o.table (same k (head + 2) (omega arith) (omega arith) ∙ run.plain.accurate k 2 h hb refl refl);
       }
 
-  slow-plant : Slow n 2 ring p₂.state.rounds (5 * n - 9) q
+  slow-plant : Slow n 2 board p₂.state.rounds (5 * n - 9) q
   slow-plant =
-      let o = crash-goes_on w n 2 0 p₂ (crew n 2 ring) hb run crash-open in
+      let o = crash-goes_on w n 2 0 p₂ (crew n 2 board) hb run crash-open in
       slow_waiting 0 slow o.rounds (omega (arith, left-now))
 
-  slow-end : Slow n 2 ring p₂.state.rounds 0 (after_grants w n q (5 * n - 9))
+  slow-end : Slow n 2 board p₂.state.rounds 0 (after_grants w n q (5 * n - 9))
   slow-end =
       let most : ℕ = 5 * n - 9 in
       let e : 0 + most ≡ most = omega arith in
-      slow-after n 2 ring p₂.state.rounds 0 most q (rw e slow-plant)
+      slow-after n 2 board p₂.state.rounds 0 most q (rw e slow-plant)
 
 -- so one grant fewer is not enough, nor are two rounds: ends in themselves
 module _ (n : ℕ) (size : is_size n ≡ true) (four : 4 ≤ n) where
@@ -284,11 +285,11 @@ module _ (n : ℕ) (size : is_size n ≡ true) (four : 4 ≤ n) where
 
   unaware : suspects n end 0 2 ≡ 0
   unfolding after_grants
-  unaware = rw (d-is n size four) at (slow-unaware n 2 (ring n size four) _ 0 _ (slow-end n size four))
+  unaware = rw (d-is n size four) at (slow-unaware n 2 (board n size four) _ 0 _ (slow-end n size four))
 
   rounds-closed : RoundsSince w n (started n) 2 2 (5 * n - 9) 2
   unfolding after_grants
-  rounds-closed = let two = slow-rounds n 2 (ring n size four) _ _ (slow-end n size four) in omega (arith, two)
+  rounds-closed = let two = slow-rounds n 2 (board n size four) _ _ (slow-end n size four) in omega (arith, two)
 
   unknown : ¬ (KnownDead n end 2)
   unfolding exact_row
@@ -301,7 +302,7 @@ module _ (n : ℕ) (size : is_size n ≡ true) (four : 4 ≤ n) where
       omega (arith, unaware, row_at n end 0 2 (hb n size four), row, one)
 
   sound : Sound w n (started n)
-  sound = fresh-is-sound w n 0 0 no_grant refl size (none-fits n)
+  sound = fresh-is-sound w n 0 0 no_grant size (none-fits n)
 
 pub ring-no-fewer-grants : RingNoFewerGrants
 ring-no-fewer-grants n size four claim = unknown n size four (claim (started n) 2 2 (5 * n - 9) (sound n size four) (omega arith) (omega arith))

@@ -6,16 +6,15 @@ use mathlib.Core.List.{List}
 use Prim.Native.Nat.{ℕ, zero, suc, ◌≤◌, ◌<◌}
 use native.Mathlib.Numerals.{add-one}
 use native.Mathlib.Omega.{arith}
-use Rattle.std.specs.Prelude.{Ok}
 use Rattle.lists.proofs.BoolLaws.{by_bool}
 use Rattle.lists.proofs.SearchLaws.{every-all, every-not}
 use Rattle.table.specs.Sizes.{is_size}
-use Rattle.table.specs.Wiring.{wiring_check}
 use Rattle.table.specs.Table.{finished}
-use Rattle.table.specs.Rules.{wired_line_rules, not_live, some_live, round_over}
+use Rattle.table.specs.Rules.{line_rules, not_live, some_live, round_over}
 use Rattle.table.proofs.SizeLaws.{size-bounds}
 use Rattle.table.proofs.Accepting.{Accepted}
 use Rattle.table.proofs.CellLaws.{line-holds}
+use Rattle.table.specs.declared.wiring.Wiring.{Wiring}
 use Rattle.plant.specs.Turn.{kind_turn, next_test, makes_test, outcome_at, turn}
 use Rattle.plant.specs.Round.{reset_lines, after_round}
 use Rattle.plant.specs.Entry.{state_of, acted, after}
@@ -33,14 +32,13 @@ use Rattle.single_crash.proofs.SweepLaw.{begins-fits, Going}
 use Rattle.single_crash.proofs.SweepLaw as law
 
 -- wiring and size, and who is live: each live board has another one beside it
-pub record Crew (w n : ℕ) (L : ℕ → Bool) : Type 0 where
-  pub wired : wiring_check w ≡ Ok tt
+pub record Crew (w : Wiring) (n : ℕ) (L : ℕ → Bool) : Type 0 where
   pub size : is_size n ≡ true
   pub company : Company n L
   pub someone : (z : ℕ) × (z < n) × (L z ≡ true)
 
 -- where the drive stands in a round that began at place `begins`
-pub record Running (w n : ℕ) (L : ℕ → Bool) (begins : ℕ) (p : Stand) : Type 0 where
+pub record Running (w : Wiring) (n : ℕ) (L : ℕ → Bool) (begins : ℕ) (p : Stand) : Type 0 where
   pub plain : Plain w n L p.state.table
   pub unclosed : round_over n p.state.table ≡ false
   pub last_fits : last_refusal n p.last ≡ 0
@@ -48,7 +46,7 @@ pub record Running (w n : ℕ) (L : ℕ → Bool) (begins : ℕ) (p : Stand) : T
   pub sweep : InSweep n begins (waits n p.state.table) (turns_made n p.state.table) p.last
 
 -- from p to p' a round closes, with last number g behind it; t' is the table before the closing
-pub record Closed (w n : ℕ) (L : ℕ → Bool) (t' : List ℕ) (g : ℕ) (p p' : Stand) : Type 0 where
+pub record Closed (w : Wiring) (n : ℕ) (L : ℕ → Bool) (t' : List ℕ) (g : ℕ) (p p' : Stand) : Type 0 where
   pub table : p'.state.table ≡ reset_lines n t'
   pub rounds : p'.state.rounds ≡ suc p.state.rounds
   pub fresh : (i : ℕ) → i < n → Reset n p'.state.table i
@@ -56,12 +54,12 @@ pub record Closed (w n : ℕ) (L : ℕ → Bool) (t' : List ℕ) (g : ℕ) (p p'
   pub running : Running w n L (following g) p'
 
 -- or it goes on
-pub record WentOn (w n : ℕ) (L : ℕ → Bool) (t' : List ℕ) (begins : ℕ) (p p' : Stand) : Type 0 where
+pub record WentOn (w : Wiring) (n : ℕ) (L : ℕ → Bool) (t' : List ℕ) (begins : ℕ) (p p' : Stand) : Type 0 where
   pub table : p'.state.table ≡ t'
   pub rounds : p'.state.rounds ≡ p.state.rounds
   pub running : Running w n L begins p'
 
-module _ (w n : ℕ) (L : ℕ → Bool) (crew : Crew w n L) where
+module _ (w : Wiring) (n : ℕ) (L : ℕ → Bool) (crew : Crew w n L) where
   pub some-live : (t : List ℕ) → Plain w n L t → some_live n t ≡ true
   unfolding some_live
   some-live t p =
@@ -71,10 +69,9 @@ module _ (w n : ℕ) (L : ℕ → Bool) (crew : Crew w n L) where
 
   accepted : (t : List ℕ) → Plain w n L t → round_over n t ≡ false → Accepted w n t
   accepted t p unclosed = record {
-    wired = crew.wired;
     size = crew.size;
     long = p.lines.0;
-    lines = every-all (wired_line_rules w n t) n (λ i h. line-holds w n t i (p.lines.1 i h));
+    lines = every-all (line_rules w n t) n (λ i h. line-holds w n t i (p.lines.1 i h));
     unclosed = unclosed;
   }
 

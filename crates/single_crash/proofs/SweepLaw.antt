@@ -17,6 +17,7 @@ use Rattle.table.specs.Properties.{line_at_start, at_start}
 use Rattle.table.proofs.SizeLaws.{size-bounds}
 use Rattle.table.proofs.Accepting.{Accepted}
 use Rattle.table.proofs.CellLaws.{accepted-line}
+use Rattle.table.specs.declared.wiring.Wiring.{Wiring}
 use Rattle.plant.specs.Turn.{kind_turn, next_test, makes_test, outcome_at, turn}
 use Rattle.plant.specs.Round.{after_round}
 use Rattle.plant.specs.Entry.{Entry, State, state_of, entry_of, entry_refusal, acted, after}
@@ -40,13 +41,13 @@ begins-fits n last fits =
     by_bool (eqb last no_grant) (λ e. rw e (omega arith)) (λ e. rw e (omega (arith, last-below n last fits e)))
 
 -- where the drive stands in a round that began at place `begins`
-pub record Going (w n begins : ℕ) (p : Stand) : Type 0 where
+pub record Going (w : Wiring) (n begins : ℕ) (p : Stand) : Type 0 where
   pub ok : Accepted w n p.state.table
   pub someone : some_live n p.state.table ≡ true
   pub last_fits : last_refusal n p.last ≡ 0
   pub sweep : InSweep n begins (waits n p.state.table) (turns_made n p.state.table) p.last
 
-module _ (w n begins : ℕ) (p : Stand) (now : Going w n begins p) where
+module _ (w : Wiring) (n begins : ℕ) (p : Stand) (now : Going w n begins p) where
   abbrev t : List ℕ
   t = p.state.table
 
@@ -134,7 +135,7 @@ module _ (w n begins : ℕ) (p : Stand) (now : Going w n begins p) where
     }
 
 -- after k grants
-module _ (w n : ℕ) (p : Stand) (granted : grant_refusal w n p.state.table p.last ≡ 0) (start : at_start n p.state.table ≡ true) where
+module _ (w : Wiring) (n : ℕ) (p : Stand) (granted : grant_refusal w n p.state.table p.last ≡ 0) (start : at_start n p.state.table ≡ true) where
   abbrev begins : ℕ
   begins = following p.last
 

@@ -10,9 +10,9 @@ use native.Mathlib.Omega.{arith}
 use borrow.Author.Tests.{lt-ltb, le-ltb, ne_eqb}
 use lib.Dec.{eqb}
 use Rattle.lists.proofs.BoolLaws.{choice}
-use Rattle.table.specs.Wiring.{wiring_ring}
 use Rattle.table.specs.Table.{next_distance, suspects}
 use Rattle.table.proofs.WiringLaws.{end_ring}
+use Rattle.table.specs.declared.wiring.Wiring.TheVariants.{Ring}
 use Rattle.station.specs.Wired.{wired_station}
 use Rattle.station.proofs.WiredLaws.{ring-station}
 use Rattle.plant.specs.Turn.{kind_turn, next_test, makes_test, turn}
@@ -20,9 +20,10 @@ use Rattle.plant.proofs.NextTest.{ring-next}
 use Rattle.granter.specs.Drive.{Stand, granted_at}
 use Rattle.witness.proofs.Moves.{byte_after, finish-bytes, test-bytes}
 use Rattle.single_crash.proofs.Running.{Crew, Running, chosen, is_live, going}
+use Rattle.table.specs.declared.wiring.Wiring.{Wiring}
 
-abbrev w : ℕ
-w = wiring_ring
+abbrev w : Wiring
+w = Ring
 
 module _ (n : ℕ) (L : ℕ → Bool) (crew : Crew w n L) (begins : ℕ) (p : Stand) (r : Running w n L begins p) (b : ℕ) (hb : b < n) where
   abbrev t : List ℕ

@@ -2,5 +2,7 @@
 // claims.
 #![tactic(auto)]
 
+pub mod bounds;
 pub mod claims;
+pub mod cube;
 pub mod ring;

@@ -20,7 +20,6 @@ use Rattle.station.specs.Calls.{answer_byte, is_other, other_distances}
 use Rattle.table.specs.Table.{row}
 use Rattle.slots.specs.Assignments.{OwnUnsuspected, SomebodyFirst, up_to, BeforeUpTo, DueEntriesAreMarked, NothingLeftOver}
 use Rattle.lists.proofs.Xor.{xor-undo}
-use Rattle.table.specs.Wiring.{wiring_cube}
 use Rattle.table.proofs.Accepting.{accepted}
 use Rattle.table.proofs.CellLaws.{row-length, row_at, accepted-line}
 use Rattle.station.proofs.DueLaws.{unsuspected-at, first_found, due-is, due-absent, due-zero}
@@ -28,6 +27,7 @@ use Rattle.std.specs.List.{range_with_len}
 use Rattle.lists.proofs.BoolLaws.{by_bool}
 use Rattle.lists.proofs.FilterLaws.{filter-twice}
 use Rattle.table.proofs.SizeLaws.{size-bounds}
+use Rattle.table.specs.declared.wiring.Wiring.TheVariants.{Cube}
 use Rattle.station.proofs.AheadLaws.{named-stands-before, before-until}
 use Rattle.station.proofs.Presence.{others-all}
 use Rattle.station.proofs.EntryLaws.{unsuspected-below, entries-length}
@@ -43,8 +43,8 @@ before-up-to i m x y b lo hi = before-until i m x y (up_to m (distance i x)) b l
 
 pub own-unsuspected : OwnUnsuspected
 own-unsuspected n t i z h =
-    let a = accepted wiring_cube n t z in
-    let l = accepted-line wiring_cube n t a i h in
+    let a = accepted Cube n t z in
+    let l = accepted-line Cube n t a i h in
     unsuspected-at (row n t i) i (rw (row-length n t i a.long h) h) ∙ eq-eqb (get_or (row n t i) i 0) 0 (row_at n t i i h ∙ l.own)
 
 pub somebody-first : SomebodyFirst

@@ -8,6 +8,7 @@ use lists::refusal::Refusal;
 use station::rows;
 use table::Station;
 use table::lent::Table;
+use table::wiring::Wiring;
 
 // How many tests a station makes a round, and the most that one more dead station can make of them, by which its slot is timed.
 #[derive(Clone, Copy, Debug, Default, PartialEq, Eq)]
@@ -49,7 +50,7 @@ fn checked(n: usize, table: &[u8], i: Station) -> Result<Table<'_>, Refusal>
     ensures has_line { IfOk result (λ t. i.0 < t.n) }
     ensures top { IfOk result (λ t. t.n ≤ 64) }
 {
-    let lent = Table::checked(n, table)?;
+    let lent = Table::checked(Wiring::Cube, n, table)?;
     rows::check_station(&lent, i)?;
     if !lent.is_live(i) {
         return Err(Refusal::NotLive);

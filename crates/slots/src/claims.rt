@@ -6,7 +6,7 @@ ghost use Rattle.slots.specs.Law.{OneSuspectedExactly, MostOfPowers, LastTestsAl
 ghost use Rattle.slots.specs.Assignments.{OwnUnsuspected, SomebodyFirst, BeforeUpTo, NothingLeftOver, DueEntriesAreMarked};
 
 // Tests, and the most that one more dead station makes of them (specs/Law.antt).
-pub fn tests()
+pub fn numbers_of_tests()
     // A distance at which somebody stands is due by its digits: each 1 below the highest names an own group that the row must suspect whole.
     ensures due_by_digits { DueByDigits }
     // Each other station is one that a board tests or one that it does not test, and is listed once.

@@ -6,7 +6,7 @@
 #![tactic(auto)]
 
 ghost use Rattle.std.specs.Prelude.{◌≡◌, map, true, false};
-ghost use Rattle.station.specs.Tests.{unsuspected, due};
+ghost use Rattle.station.specs.Tests.{due};
 ghost use Rattle.slots.specs.Slots.{tested, tests_due, tests_with, most_tests, most_of_boards};
 
 pub mod board;
@@ -16,14 +16,6 @@ pub mod untested;
 use arrayvec::ArrayVec;
 use station::{due, order, rows};
 use table::{Distance, Station, sizes};
-
-// Whether board x is there and not suspected by the row.
-#[tactic(auto, unfolding(station::specs::Tests::unsuspected))]
-pub fn is_unsuspected(row: &[u8], x: Station) -> bool
-    ensures { result ≡ unsuspected row.now x.0 }
-{
-    row.get(x.0 as usize).copied().unwrap_or(1) == 0
-}
 
 // Whom i of n stations tests by its row of n bytes, in order. At most 255: any n has at most 256 distances, and 0 is never due.
 pub fn list_tests(n: u8, row: &[u8], i: Station) -> ArrayVec<Station, 255>

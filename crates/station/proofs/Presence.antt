@@ -9,7 +9,7 @@ use lib.Bits.{xor_comm, xor_zero_r}
 use lib.ListN.{length}
 use Rattle.lists.specs.Sums.{sum_below, bit}
 use Rattle.table.specs.Sizes.{is_size, dimension, distances}
-use Rattle.table.specs.Wiring.{wiring_cube, is_ring, end_distance}
+use Rattle.table.specs.Wiring.{is_ring, end_distance}
 use Rattle.table.proofs.WiringLaws.{end-cube}
 use Rattle.station.specs.Wired.{wired_station}
 use Rattle.station.proofs.WiredLaws.{place_before, place_below, cube-station, ring-station}
@@ -19,9 +19,11 @@ use Rattle.station.specs.Calls.{is_other, other_distances}
 use Rattle.lists.proofs.SumLaws.{sum_below-suc, sum_by, sum-split, sum-zero, sum-const, sum-xor}
 use Rattle.table.proofs.SizeLaws.{size-distances, distances-pos}
 use Rattle.lists.proofs.FilterLaws.{select-sum}
+use Rattle.table.specs.declared.wiring.Wiring.{Wiring}
+use Rattle.table.specs.declared.wiring.Wiring.TheVariants.{Cube}
 
 -- how many of n stations stand at the distances below m from station i
-abbrev pub standing : ℕ → ℕ → ℕ → ℕ → ℕ
+abbrev pub standing : Wiring → ℕ → ℕ → ℕ → ℕ
 standing w n i m = sum_below (λ k. bit (is_present n (wired_station w n i k))) m
 
 -- of the numbers below m ≥ n those below n are n
@@ -40,7 +42,7 @@ cube-all n i size h =
     ∙ numbers-below n (2 ^ dimension n) low
 
 -- what each wiring must satisfy of the distances below its end distance: at so many stand all n stations
-pub standing-all : (w n i : ℕ) → is_size n ≡ true → i < n → standing w n i (end_distance w n) ≡ n
+pub standing-all : (w : Wiring) (n i : ℕ) → is_size n ≡ true → i < n → standing w n i (end_distance w n) ≡ n
 unfolding end_distance
 standing-all w n i size h =
     by_bool (is_ring w)
@@ -49,17 +51,17 @@ standing-all w n i size h =
     (λ c. rw c (sum_by (distances n) (λ k l. ap (λ (x : ℕ). bit (is_present n x)) (cube-station w n i k c)) ∙ cube-all n i size h))
 
 -- a station at a distance counts one more
-pub standing-more : (w n i m : ℕ) → wired_station w n i m < n → standing w n i (suc m) ≡ suc (standing w n i m)
+pub standing-more : (w : Wiring) (n i m : ℕ) → wired_station w n i m < n → standing w n i (suc m) ≡ suc (standing w n i m)
 standing-more w n i m l =
     omega (arith, sum_below-suc (λ k. bit (is_present n (wired_station w n i k))) m, ap bit (lt-ltb (wired_station w n i m) n l))
 
-pub standing-grows : (w n i a b : ℕ) → a ≤ b → standing w n i a ≤ standing w n i b
+pub standing-grows : (w : Wiring) (n i a b : ℕ) → a ≤ b → standing w n i a ≤ standing w n i b
 standing-grows w n i a b l =
     let e : a + (b - a) ≡ b = omega arith in
     omega (arith, rw e at (sum-split (λ k. bit (is_present n (wired_station w n i k))) a (b - a)))
 
 -- the station itself stands at distance 0
-pub standing-own : (w n i : ℕ) → i < n → standing w n i 1 ≡ 1
+pub standing-own : (w : Wiring) (n i : ℕ) → i < n → standing w n i 1 ≡ 1
 unfolding sum_below
 standing-own w n i h =
     by_bool (is_ring w)
@@ -67,7 +69,7 @@ standing-own w n i h =
     (λ c. let e : wired_station w n i 0 ≡ i = cube-station w n i 0 c ∙ xor_zero_r i in rw (e, lt-ltb i n h))
 
 -- below m > 0 one station more stands than other stations do, for the station itself stands at 0
-others_below : (n i m : ℕ) → i < n → suc (sum_below (λ k. bit (is_other n i k)) (suc m)) ≡ standing wiring_cube n i (suc m)
+others_below : (n i m : ℕ) → i < n → suc (sum_below (λ k. bit (is_other n i k)) (suc m)) ≡ standing Cube n i (suc m)
 unfolding sum_below wired_station
 others_below n i zero h = rw (xor_zero_r i, lt-ltb i n h) (omega arith)
 others_below n i (suc m) h =
@@ -82,5 +84,5 @@ pub others-all : (n i : ℕ) → is_size n ≡ true → i < n → suc (length (o
 unfolding other_distances
 others-all n i size h =
     let pos : suc (distances n - 1) ≡ distances n = omega (arith, distances-pos n) in
-    let whole : standing wiring_cube n i (distances n) ≡ n = rw (end-cube n) at (standing-all wiring_cube n i size h) in
+    let whole : standing Cube n i (distances n) ≡ n = rw (end-cube n) at (standing-all Cube n i size h) in
     omega (arith, select-sum (is_other n i) (distances n), rw pos at (others_below n i (distances n - 1) h), whole)

@@ -9,7 +9,9 @@ use Rattle.table.specs.Table.{row_start, row, live}
 use Rattle.lists.specs.declared.refusal.Refusal.{Refusal}
 use Rattle.lists.specs.declared.refusal.Refusal.TheVariants.{SizeOutOfRange, NotLive, NoSuchLevel}
 use Rattle.lists.specs.Refusal.{Check, ensure, ◌and◌, number_of_result, unless_refused}
-use Rattle.table.specs.Rules.{table_check, numbered_table_check, length_check, station_check}
+use Rattle.table.specs.Rules.{table_check, length_check, station_check}
+use Rattle.table.specs.declared.wiring.Wiring.{Wiring}
+use Rattle.table.specs.declared.wiring.Wiring.TheVariants.{Cube}
 use Rattle.station.specs.Tests.{DueAnswer, answer_due, answer_ahead, answer, due_distances}
 use Rattle.station.specs.declared.DueOrAhead.{DueOrAhead}
 use Rattle.station.specs.declared.DueOrAhead.TheVariants.{Due, Ahead}
@@ -31,21 +33,21 @@ group_check n i s len = ensure (is_size n) SizeOutOfRange and range_check n i s 
 unfoldable pub group_after : ℕ → ℕ → ℕ → List ℕ → List ℕ
 group_after n i s list = unless_refused (group_check n i s (length list)) list (group n i s)
 
--- Row: refusals 24, 1 to 4, 9
-unfoldable pub row_check : ℕ → ℕ → List ℕ → ℕ → Check
-row_check w n t i = numbered_table_check w n t and station_check n i
+-- Row: refusals 1 to 4, 9
+unfoldable pub row_check : Wiring → ℕ → List ℕ → ℕ → Check
+row_check w n t i = table_check w n t and station_check n i
 
 -- Rule Row part: the station's row, as that very part of the lent table. A refused call gives the empty part
-unfoldable pub row_part : ℕ → ℕ → List ℕ → ℕ → List ℕ
+unfoldable pub row_part : Wiring → ℕ → List ℕ → ℕ → List ℕ
 row_part w n t i = unless_refused (row_check w n t i) [] (row n t i)
 
 -- where that part begins, counted from the table's first byte; the empty part of a refusal begins where the table does
-unfoldable pub row_offset : ℕ → ℕ → List ℕ → ℕ → ℕ
+unfoldable pub row_offset : Wiring → ℕ → List ℕ → ℕ → ℕ
 row_offset w n t i = unless_refused (row_check w n t i) 0 (row_start n i)
 
 -- Assignment: refusals 1 to 4, 9, 10, 13. 10: the station is not live. 13: the list has not two bytes for each other station
 unfoldable pub assignment_check : ℕ → List ℕ → ℕ → ℕ → Check
-assignment_check n t i len = table_check n t and station_check n i and ensure (live n t i) NotLive and length_check (2 * (n - 1)) len
+assignment_check n t i len = table_check Cube n t and station_check n i and ensure (live n t i) NotLive and length_check (2 * (n - 1)) len
 
 -- whether another of n stations stands at distance m from i
 abbrev pub is_other : ℕ → ℕ → ℕ → Bool
@@ -82,7 +84,7 @@ assignment_count n t i len = result_unwrap_or (assignment_answer n t i len) 0
 abbrev pub group_refusal : ℕ → ℕ → ℕ → ℕ → ℕ
 group_refusal n i s len = number_of_result (group_check n i s len)
 
-abbrev pub row_refusal : ℕ → ℕ → List ℕ → ℕ → ℕ
+abbrev pub row_refusal : Wiring → ℕ → List ℕ → ℕ → ℕ
 row_refusal w n t i = number_of_result (row_check w n t i)
 
 abbrev pub assignment_refusal : ℕ → List ℕ → ℕ → ℕ → ℕ

@@ -5,6 +5,7 @@ use Rattle.std.specs.Prelude.{ℕ, ◌+◌, min, Bool, List, [], ◌∷◌, if�
 use Rattle.table.specs.Wiring.{end_distance}
 use Rattle.table.specs.Table.{Write, ◌becomes◌, status_column, next_column, finished_column, tests_column, told_by_column, rounds_ago_column}
 use Rattle.table.specs.Table.{rounds_ago_top, status_told}
+use Rattle.table.specs.declared.wiring.Wiring.{Wiring}
 use Rattle.station.specs.Outcome.{outcome_exchanged, outcome_told, outcome_tested_told}
 use Rattle.station.specs.Wired.{next_after}
 
@@ -13,11 +14,11 @@ abbrev pub told_writes : ℕ → List Write
 told_writes b = (status_column becomes status_told) ∷ (told_by_column becomes b) ∷ []
 
 -- Rule End of a pass: next distance becomes the end distance, and the pass is finished
-abbrev pub finish_writes : ℕ → ℕ → List Write
+abbrev pub finish_writes : Wiring → ℕ → List Write
 finish_writes w n = (next_column becomes end_distance w n) ∷ (finished_column becomes 1) ∷ []
 
 -- Rule Count the test, at distance m and by its outcome: next distance becomes what the wiring says, and the tests made go up by one
-abbrev pub count_writes : ℕ → ℕ → ℕ → ℕ → ℕ → List Write
+abbrev pub count_writes : Wiring → ℕ → ℕ → ℕ → ℕ → List Write
 count_writes w n m outcome tests = (next_column becomes next_after w n m outcome) ∷ (tests_column becomes tests + 1) ∷ []
 
 -- Rule Outcomes, where the tested station replies: Tester told if that one suspects the tester; else Tested told if the tester suspects it; else

@@ -10,13 +10,14 @@ ghost use Rattle.station.specs.Calls.{answer_value, other_distances, assignment_
 use crate::{DueOrAhead, groups, order, rows};
 use lists::refusal::Refusal;
 use table::lent::Table;
+use table::wiring::Wiring;
 use table::{Distance, Station, sizes};
 
 // Here and in the turn's scan row, station and distance stay parameters of their own: the public functions take any row, also one of no table.
 
 // Whether the row leaves station x not suspected. Past the row's end a station is absent.
 #[tactic(auto, unfolding(crate::specs::Tests::unsuspected))]
-fn is_unsuspected(row: &[u8], x: Station) -> bool
+pub fn is_unsuspected(row: &[u8], x: Station) -> bool
     ensures { result ≡ unsuspected row.now x.0 }
 {
     row.get(x.0 as usize).copied().unwrap_or(1) == 0
@@ -105,7 +106,7 @@ fn check_assignment(n: usize, table: &[u8], i: Station, len: usize) -> Result<Ta
     ensures same_size { IfOk result (λ t. t.n ≡ n) }
     ensures same_bytes { IfOk result (λ t. t.bytes.now ≡ table.now) }
 {
-    let lent = Table::checked(n, table)?;
+    let lent = Table::checked(Wiring::Cube, n, table)?;
     rows::check_station(&lent, i)?;
     if !lent.is_live(i) {
         return Err(Refusal::NotLive);

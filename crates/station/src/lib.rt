@@ -1,9 +1,9 @@
 // The station rules of the vCube watch: groups, due tests and rows. They stand above `table`.
 // The plant run stands above this crate and relies only on what is stated here.
 //
-// The calls: groups::group_list, due::assignment, rows::row and rows::check_row. The rest is open for the crates above. No function but those of
-// `wired` has a `requires`: they are for what is checked. Those of `claims` do nothing: their clauses are the claims of specs/Partition.antt,
-// specs/Nested.antt and specs/Ahead.antt.
+// The calls: groups::group_list, due::assignment, rows::row and rows::check_row. The rest is open for the crates above. Of what is open
+// only `wired` has functions with a `requires`: they are for what is checked. The functions of `claims` do nothing: their clauses are the claims of
+// specs/Partition.antt, specs/Nested.antt and specs/Ahead.antt.
 #![tactic(auto)]
 
 ghost use Rattle.std.specs.Prelude.{◌≡◌};

@@ -9,11 +9,12 @@ use lists::bytes;
 use lists::refusal::Refusal;
 use table::Station;
 use table::lent::Table;
+use table::wiring::Wiring;
 
 // The row of station i, as that very part of the table: its bytes, and its place in the lent memory. A refused call gives the empty part, by rule
 // Row part, and no `Err`.
 #[tactic(auto, unfolding(crate::specs::Calls::row_part, crate::specs::Calls::row_offset))]
-pub fn row(wiring: usize, n: usize, table: &[u8], i: Station) -> &[u8]
+pub fn row(wiring: Wiring, n: usize, table: &[u8], i: Station) -> &[u8]
     ensures row_bytes { result.now ≡ row_part wiring n table.now i.0 }
     ensures same_memory { result.ref_ptr.0 ≡ table.entry.ref_ptr.0 }
     ensures place_of_row { result.ref_ptr.1
@@ -25,8 +26,8 @@ pub fn row(wiring: usize, n: usize, table: &[u8], i: Station) -> &[u8]
     }
 }
 
-// Refusals 24, 1 to 4 and 9 of the row on the same inputs.
-pub fn check_row(wiring: usize, n: usize, table: &[u8], i: Station) -> Result<(), Refusal>
+// Refusals 1 to 4 and 9 of the row on the same inputs.
+pub fn check_row(wiring: Wiring, n: usize, table: &[u8], i: Station) -> Result<(), Refusal>
     ensures { result ≡ row_check wiring n table.now i.0 }
 {
     checked_line(wiring, n, table, i).map(|_| ())
@@ -34,14 +35,14 @@ pub fn check_row(wiring: usize, n: usize, table: &[u8], i: Station) -> Result<()
 
 // The lent bytes as a table that has a line i: the same refusals.
 #[tactic(auto, unfolding(crate::specs::Calls::row_check))]
-fn checked_line(wiring: usize, n: usize, table: &[u8], i: Station) -> Result<Table<'_>, Refusal>
+fn checked_line(wiring: Wiring, n: usize, table: &[u8], i: Station) -> Result<Table<'_>, Refusal>
     ensures check { result_map_both (λ t. tt) (λ r. r) result ≡ row_check wiring n table.now i.0 }
     ensures same_size { IfOk result (λ t. t.n ≡ n) }
     ensures same_bytes { IfOk result (λ t. t.bytes.now ≡ table.now) }
     ensures same_place { IfOk result (λ t. t.bytes.ref_ptr ≡ table.entry.ref_ptr) }
     ensures has_line { IfOk result (λ t. i.0 < t.n) }
 {
-    let (_, lent) = Table::checked_by_number(wiring, n, table)?;
+    let lent = Table::checked(wiring, n, table)?;
     check_station(&lent, i)?;
     Ok(lent)
 }

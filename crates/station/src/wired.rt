@@ -3,7 +3,7 @@
 ghost use Rattle.std.specs.Prelude.{◌≡◌, ◌-◌, true};
 ghost use Rattle.lists.specs.Search.{least};
 ghost use Rattle.table.specs.Sizes.{is_size};
-ghost use Rattle.table.specs.Wiring.{wiring_number, end_distance};
+ghost use Rattle.table.specs.Wiring.{end_distance};
 ghost use Rattle.station.specs.Tests.{due};
 
 use crate::outcome::Outcome;
@@ -18,7 +18,7 @@ pub struct Wired {
     pub n: u8,
     pub end: u8,
     ghost sized: { is_size n ≡ true },
-    ghost last_of_pass: { end ≡ end_distance (wiring_number wiring) n },
+    ghost last_of_pass: { end ≡ end_distance wiring n },
 }
 
 impl Wired {
@@ -42,7 +42,7 @@ impl Wired {
     pub fn station_at(self, i: Station, m: Distance) -> Station
         requires station { i.0 < self.n }
         requires distance { m.0 < self.end }
-        ensures { result.0 ≡ wired_station (wiring_number self.wiring) self.n i.0 m.0 }
+        ensures { result.0 ≡ wired_station self.wiring self.n i.0 m.0 }
     {
         match self.wiring {
             Wiring::Cube => order::station_at(i, m),
@@ -69,8 +69,7 @@ impl Wired {
     // The distance of the next test of i, by its row and its next distance: the least one from there on at which it is to test; the end distance
     // where there is none.
     pub fn next_due(self, row: &[u8], i: Station, next: Distance) -> Distance
-        ensures { let w = wiring_number self.wiring in
-            result.0 ≡ next_due w self.n row.now i.0 next.0 }
+        ensures { result.0 ≡ next_due self.wiring self.n row.now i.0 next.0 }
     {
         match self.wiring {
             Wiring::Cube => scan(row, i, self.end, next),
@@ -82,8 +81,7 @@ impl Wired {
     #[tactic(auto, unfolding(crate::specs::Wired::next_after))]
     pub fn next_after(self, m: Distance, outcome: Outcome) -> u8
         requires { m.0 < 255 }
-        ensures { let w = wiring_number self.wiring in
-            result ≡ next_after w self.n m.0 (outcome_byte outcome) }
+        ensures { result ≡ next_after self.wiring self.n m.0 (outcome_byte outcome) }
     {
         match self.wiring {
             Wiring::Cube => m.0 + 1,

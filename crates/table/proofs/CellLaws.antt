@@ -19,11 +19,12 @@ use Rattle.table.proofs.WiringLaws.{end-pos}
 use Rattle.table.specs.Table.{head, stride, table_length, line_start, cell, set_cell, status, next_distance, finished, tests_made, status_told}
 use Rattle.table.specs.Table.{told_by, told_by_column, told_by_none, not_recorded, rounds_ago, rounds_ago_column, suspects, row_start, row, set_row}
 use Rattle.table.specs.Table.{next_column, tests_column}
-use Rattle.table.specs.Rules.{pass_rule, exit_rule, suspicion_rule, row_rule_by, row_rule, wired_line_rules}
+use Rattle.table.specs.Rules.{pass_rule, exit_rule, suspicion_rule, row_rule_by, row_rule, line_rules}
 use Rattle.lists.specs.Search.{every}
 use Rattle.lists.proofs.BoolLaws.{every-same}
 use Rattle.lists.proofs.SearchLaws.{both, every-suc, every-at, every-all}
 use Rattle.table.proofs.Accepting.{Accepted}
+use Rattle.table.specs.declared.wiring.Wiring.{Wiring}
 
 -- a column that a turn counts in: next distance, pass finished, tests made
 abbrev pub TurnCounts : ℕ → Type 0
@@ -171,7 +172,7 @@ pub record Pass (end next finished tests : ℕ) : Type 0 where
   pub finished_next : finished ≡ 1 → next ≡ end
 
 -- a line at the start of a round
-pub start-pass : (w n i : ℕ) → i < n → Pass (end_distance w n) 1 0 0
+pub start-pass : (w : Wiring) (n i : ℕ) → i < n → Pass (end_distance w n) 1 0 0
 start-pass w n i h = record {
   next_low = omega arith;
   next_high = end-pos w n i h;
@@ -181,7 +182,7 @@ start-pass w n i h = record {
 }
 
 -- the line rules of line i, on wiring w
-pub record Line (w n : ℕ) (t : List ℕ) (i : ℕ) : Type 0 where
+pub record Line (w : Wiring) (n : ℕ) (t : List ℕ) (i : ℕ) : Type 0 where
   pub status_range : status n t i ≤ 3
   pub pass : Pass (end_distance w n) (next_distance n t i) (finished n t i) (tests_made n t i)
   pub exits : exit_rule n i (status n t i) (told_by n t i) (rounds_ago n t i) ≡ true
@@ -230,8 +231,8 @@ pass-holds end x f m p =
     rw (le-leb 1 x p.next_low, le-leb x end p.next_high, le-leb f 1 p.finished_range, le-leb m (x - 1) p.tests_bound)
     (or_right (eqb f 0) (eqb x end) (λ g. eq-eqb x end (p.finished_next (omega (arith, p.finished_range, eqb-false f 0 g)))))
 
-line-facts : (w n : ℕ) (t : List ℕ) (i : ℕ) → wired_line_rules w n t i ≡ true → Line w n t i
-unfolding wired_line_rules row_rule
+line-facts : (w : Wiring) (n : ℕ) (t : List ℕ) (i : ℕ) → line_rules w n t i ≡ true → Line w n t i
+unfolding line_rules row_rule
 line-facts w n t i e =
     let a = both _ _ e in
     let b = both _ _ a.0 in
@@ -245,8 +246,8 @@ line-facts w n t i e =
       range = λ k h. leb-true _ _ (every-at (suspicion_rule n t i) n k r.1 h);
     }
 
-pub line-holds : (w n : ℕ) (t : List ℕ) (i : ℕ) → Line w n t i → wired_line_rules w n t i ≡ true
-unfolding wired_line_rules row_rule
+pub line-holds : (w : Wiring) (n : ℕ) (t : List ℕ) (i : ℕ) → Line w n t i → line_rules w n t i ≡ true
+unfolding line_rules row_rule
 line-holds w n t i l =
     rw (
       le-leb (status n t i) 3 l.status_range,
@@ -256,5 +257,5 @@ line-holds w n t i l =
     )
     (every-all (suspicion_rule n t i) n (λ k h. le-leb (suspects n t i k) 1 (l.range k h)))
 
-pub accepted-line : (w n : ℕ) (t : List ℕ) → Accepted w n t → (i : ℕ) → i < n → Line w n t i
-accepted-line w n t a i h = line-facts w n t i (every-at (wired_line_rules w n t) n i a.lines h)
+pub accepted-line : (w : Wiring) (n : ℕ) (t : List ℕ) → Accepted w n t → (i : ℕ) → i < n → Line w n t i
+accepted-line w n t a i h = line-facts w n t i (every-at (line_rules w n t) n i a.lines h)

@@ -1,9 +1,10 @@
--- The line rules, and refusals 24, 1 to 4, 9 and 13, which several calls have.
+-- The line rules, and refusals 1 to 4, 9 and 13, which several calls have.
 -- Assumes nothing.
 use Rattle.std.specs.Prelude.{ℕ, ◌-◌, Bool, not, ◌&&◌, ◌||◌, List, length, if◌then◌else◌, ◌==◌, nat_lt, nat_le}
 use Rattle.lists.specs.Search.{every}
 use Rattle.table.specs.Sizes.{is_size}
-use Rattle.table.specs.Wiring.{wiring_cube, wiring_check, end_distance}
+use Rattle.table.specs.Wiring.{end_distance}
+use Rattle.table.specs.declared.wiring.Wiring.{Wiring}
 use Rattle.table.specs.Table.{table_length, cell, status_column, status_told, next_column, finished_column, tests_column, finished, told_by_column}
 use Rattle.table.specs.Table.{told_by_none, not_recorded, rounds_ago_column, suspects, live}
 use Rattle.lists.specs.declared.refusal.Refusal.TheVariants.{SizeOutOfRange, TableLength, LineRule, RoundNotClosed, NoSuchStation, ListLength}
@@ -42,18 +43,14 @@ unfoldable pub row_rule : ℕ → List ℕ → ℕ → Bool
 row_rule n t i = row_rule_by n i (suspects n t i)
 
 -- the rules of bytes 0 to 5 of the line of station i, by its bytes
-abbrev pub head_rules_by : ℕ → ℕ → ℕ → (ℕ → ℕ) → Bool
+abbrev pub head_rules_by : Wiring → ℕ → ℕ → (ℕ → ℕ) → Bool
 head_rules_by w n i byte =
     status_rule (byte status_column) && pass_rule (end_distance w n) (byte next_column) (byte finished_column) (byte tests_column)
     && exit_rule n i (byte status_column) (byte told_by_column) (byte rounds_ago_column)
 
 -- all line rules, of line i of a plant with wiring w
-unfoldable pub wired_line_rules : ℕ → ℕ → List ℕ → ℕ → Bool
-wired_line_rules w n t i = head_rules_by w n i (cell n t i) && row_rule n t i
-
--- and on the cube
-abbrev pub line_rules : ℕ → List ℕ → ℕ → Bool
-line_rules = wired_line_rules wiring_cube
+unfoldable pub line_rules : Wiring → ℕ → List ℕ → ℕ → Bool
+line_rules w n t i = head_rules_by w n i (cell n t i) && row_rule n t i
 
 -- station i is not live
 abbrev pub not_live : ℕ → List ℕ → ℕ → Bool
@@ -79,28 +76,14 @@ round_over n t = some_live n t && live_finished n t
 unfoldable pub shape_check : ℕ → ℕ → Check
 shape_check n len = ensure (is_size n) SizeOutOfRange and ensure (len == table_length n) TableLength
 
--- refusals 1 to 4 on a wiring: then a line breaks a line rule; the round is over and was not closed
-unfoldable pub table_check_on : ℕ → ℕ → List ℕ → Check
-table_check_on w n t =
-    shape_check n (length t) and ensure (every (wired_line_rules w n t) n) LineRule and ensure (not (round_over n t)) RoundNotClosed
+-- refusals 1 to 4: then a line breaks a line rule; the round is over and was not closed
+unfoldable pub table_check : Wiring → ℕ → List ℕ → Check
+table_check w n t =
+    shape_check n (length t) and ensure (every (line_rules w n t) n) LineRule and ensure (not (round_over n t)) RoundNotClosed
 
--- and on the cube
-abbrev pub table_check : ℕ → List ℕ → Check
-table_check = table_check_on wiring_cube
-
--- refusal 24, then 1 and 2, or 1 to 4, where the wiring is given by a number
-abbrev pub numbered_shape_check : ℕ → ℕ → ℕ → Check
-numbered_shape_check w n len = wiring_check w and shape_check n len
-
-abbrev pub numbered_table_check : ℕ → ℕ → List ℕ → Check
-numbered_table_check w n t = wiring_check w and table_check_on w n t
-
--- their numbers
-abbrev pub table_refusal : ℕ → List ℕ → ℕ
-table_refusal n t = number_of_result (table_check n t)
-
-abbrev pub numbered_table_refusal : ℕ → ℕ → List ℕ → ℕ
-numbered_table_refusal w n t = number_of_result (numbered_table_check w n t)
+-- its number
+abbrev pub table_refusal : Wiring → ℕ → List ℕ → ℕ
+table_refusal w n t = number_of_result (table_check w n t)
 
 -- refusal 9: the station's number is n or more
 abbrev pub station_check : ℕ → ℕ → Check

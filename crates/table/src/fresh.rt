@@ -1,21 +1,19 @@
 // The call for a fresh table.
 ghost use Rattle.std.specs.Prelude.{◌≡◌, length};
 ghost use Rattle.table.specs.Lent.{IsSameLoan};
-ghost use Rattle.table.specs.Rules.{numbered_shape_check};
+ghost use Rattle.table.specs.Rules.{shape_check};
 ghost use Rattle.table.specs.Fresh.{fresh_byte, fresh_table, fresh_after};
 
 use crate::lent::TableMut;
-use crate::wiring::Wiring;
 use crate::{cells, rules};
 use lists::refusal::Refusal;
 
 // Fills the table: every line live, next distance 1, byte 4 255, all else 0.
-#[tactic(auto, using(crate::proofs::Accepting::shape_ok, crate::proofs::SizeLaws::size_top, crate::proofs::WiringLaws::wiring_ok, crate::proofs::WiringLaws::wiring_err), unfolding(crate::specs::Fresh::fresh_after))]
-pub fn fresh_table(wiring: usize, n: usize, table: &mut [u8]) -> Result<(), Refusal>
-    ensures check { result ≡ numbered_shape_check wiring n (length table.old) }
-    ensures table_after { table.new ≡ fresh_after wiring n table.old }
+#[tactic(auto, using(crate::proofs::Accepting::shape_ok, crate::proofs::SizeLaws::size_top), unfolding(crate::specs::Fresh::fresh_after))]
+pub fn fresh_table(n: usize, table: &mut [u8]) -> Result<(), Refusal>
+    ensures check { result ≡ shape_check n (length table.old) }
+    ensures table_after { table.new ≡ fresh_after n table.old }
 {
-    Wiring::try_from(wiring)?;
     rules::check_shape(n, table.len())?;
     write_fresh(&mut TableMut {
         n: n as u8,

@@ -5,8 +5,7 @@ ghost use Rattle.table.specs.Sizes.{is_size};
 ghost use Rattle.table.specs.Table.{stride, table_length, cell, set_cell, status_column, row_start, row, live, next_distance, finished, suspects};
 ghost use Rattle.table.specs.Status.{status_byte};
 ghost use Rattle.std.specs.Result.{result_map_both};
-ghost use Rattle.table.specs.Wiring.{wiring_number};
-ghost use Rattle.table.specs.Rules.{shape_check, table_check, table_check_on, numbered_table_check, row_rule, finished_if_live, round_over};
+ghost use Rattle.table.specs.Rules.{shape_check, table_check, row_rule, finished_if_live, round_over};
 
 use crate::status::Status;
 use crate::wiring::Wiring;
@@ -46,40 +45,10 @@ impl<'a> Table<'a> {
         Ok(Table { n: n as u8, bytes })
     }
 
-    // The lent bytes as a table of n stations on the cube that obeys the line rules and whose round is not over: refusals 1 to 4.
-    pub fn checked(n: usize, bytes: &'a [u8]) -> Result<Table<'a>, Refusal>
-        ensures check { result_map_both (λ t. tt) (λ r. r) result ≡ table_check n bytes.now }
-        ensures same_size { IfOk result (λ t. t.n ≡ n) }
-        ensures same_bytes { IfOk result (λ t. t.bytes.now ≡ bytes.now) }
-        ensures same_place { IfOk result (λ t. t.bytes.ref_ptr ≡ bytes.entry.ref_ptr) }
-    {
-        Table::checked_on(Wiring::Cube, n, bytes)
-    }
-
-    // The same where the wiring is given by its number: refusals 24 and 1 to 4. The answer has the wiring beside the table.
-    #[tactic(auto, using(crate::proofs::WiringLaws::wiring_ok, crate::proofs::WiringLaws::wiring_err))]
-    pub fn checked_by_number(
-        wiring: usize,
-        n: usize,
-        bytes: &'a [u8],
-    ) -> Result<(Wiring, Table<'a>), Refusal>
-        ensures check { result_map_both (λ s. tt) (λ r. r) result
-            ≡ numbered_table_check wiring n bytes.now }
-        ensures same_wiring { IfOk result (λ s. wiring_number s.0 ≡ wiring) }
-        ensures same_size { IfOk result (λ s. s.1.n ≡ n) }
-        ensures same_bytes { IfOk result (λ s. s.1.bytes.now ≡ bytes.now) }
-        ensures same_place { IfOk result (λ s. s.1.bytes.ref_ptr ≡ bytes.entry.ref_ptr) }
-    {
-        let wiring = Wiring::try_from(wiring)?;
-        let table = Table::checked_on(wiring, n, bytes)?;
-        Ok((wiring, table))
-    }
-
-    // The same on a wiring: refusals 1 to 4.
-    #[tactic(auto, unfolding(crate::specs::Rules::table_check_on))]
-    pub fn checked_on(wiring: Wiring, n: usize, bytes: &'a [u8]) -> Result<Table<'a>, Refusal>
-        ensures check { result_map_both (λ t. tt) (λ r. r) result
-            ≡ table_check_on (wiring_number wiring) n bytes.now }
+    // The lent bytes as a table of n stations on a wiring that obeys the line rules and whose round is not over: refusals 1 to 4.
+    #[tactic(auto, unfolding(crate::specs::Rules::table_check))]
+    pub fn checked(wiring: Wiring, n: usize, bytes: &'a [u8]) -> Result<Table<'a>, Refusal>
+        ensures check { result_map_both (λ t. tt) (λ r. r) result ≡ table_check wiring n bytes.now }
         ensures same_size { IfOk result (λ t. t.n ≡ n) }
         ensures same_bytes { IfOk result (λ t. t.bytes.now ≡ bytes.now) }
         ensures same_place { IfOk result (λ t. t.bytes.ref_ptr ≡ bytes.entry.ref_ptr) }

@@ -1,4 +1,4 @@
-// The lent table of the vCube watch: its layout, wiring, line rules, refusals 24 and 1 to 4, the fresh table, bytes and rows.
+// The lent table of the vCube watch: its layout, wiring, line rules, refusals 1 to 4, the fresh table, bytes and rows.
 //
 // The call for callers is fresh::fresh_table. The rest is open for the crates above. No function open to a caller has a `requires`, but for
 // those of `lent`, which are meant for crates that know that the line is there.

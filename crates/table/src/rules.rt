@@ -3,8 +3,7 @@
 ghost use Rattle.std.specs.Prelude.{◌≡◌, ◌<◌, length, slice_index};
 ghost use Rattle.lists.specs.Search.{every};
 ghost use Rattle.table.specs.Status.{status_byte};
-ghost use Rattle.table.specs.Wiring.{wiring_number};
-ghost use Rattle.table.specs.Rules.{pass_rule, exit_rule, row_rule_by, wired_line_rules, shape_check, table_check};
+ghost use Rattle.table.specs.Rules.{pass_rule, exit_rule, row_rule_by, line_rules, shape_check, table_check};
 
 use crate::lent::Table;
 use crate::status::Status;
@@ -27,18 +26,18 @@ pub(crate) fn check_shape(n: usize, len: usize) -> Result<(), Refusal>
     Ok(())
 }
 
-// Refusals 1 to 4, on the cube.
-pub fn check_table(n: usize, table: &[u8]) -> Result<(), Refusal>
-    ensures { result ≡ table_check n table.now }
+// Refusals 1 to 4.
+pub fn check_table(wiring: Wiring, n: usize, table: &[u8]) -> Result<(), Refusal>
+    ensures { result ≡ table_check wiring n table.now }
 {
-    Table::checked(n, table).map(|_| ())
+    Table::checked(wiring, n, table).map(|_| ())
 }
 
 // Whether every line obeys the line rules. A loop with an exit is faster here than std's `all`.
 #[tactic(auto, using(lists::proofs::Loops::loops))]
 pub(crate) fn all_lines(wiring: Wiring, table: &Table) -> bool
     ensures { let n = table.now.n in
-        result ≡ every (wired_line_rules (wiring_number wiring) n table.now.bytes.now) n }
+        result ≡ every (line_rules wiring n table.now.bytes.now) n }
 {
     for i in 0..table.n {
         if !line_rules(wiring, table, Station(i)) {
@@ -48,11 +47,11 @@ pub(crate) fn all_lines(wiring: Wiring, table: &Table) -> bool
     true
 }
 
-#[tactic(auto, using(crate::proofs::StatusLaws::status_ok, crate::proofs::StatusLaws::status_err), unfolding(crate::specs::Rules::wired_line_rules))]
+#[tactic(auto, using(crate::proofs::StatusLaws::status_ok, crate::proofs::StatusLaws::status_err), unfolding(crate::specs::Rules::line_rules))]
 fn line_rules(wiring: Wiring, table: &Table, i: Station) -> bool
     requires { i.0 < table.now.n }
     ensures { result
-        ≡ wired_line_rules (wiring_number wiring) table.now.n table.now.bytes.now i.0 }
+        ≡ line_rules wiring table.now.n table.now.bytes.now i.0 }
 {
     let Ok(status) = Status::try_from(table.get(i, cells::STATUS)) else {
         return false;

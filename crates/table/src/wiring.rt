@@ -33,7 +33,7 @@ impl Wiring {
     // The next distance of a finished line of n stations.
     #[tactic(auto, unfolding(crate::specs::Wiring::end_distance))]
     pub fn end_distance(self, n: u8) -> u16
-        ensures last_of_pass { result ≡ end_distance (wiring_number self) n }
+        ensures last_of_pass { result ≡ end_distance self n }
         ensures upper_bound { result ≤ 256 }
     {
         match self {

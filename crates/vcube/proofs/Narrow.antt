@@ -17,8 +17,7 @@ use lib.ListN.{length}
 use Rattle.table.specs.Sizes.{is_size, dimension}
 use Rattle.station.specs.Groups.{group}
 use Rattle.lists.specs.Refusal.{Check, ensure, ◌and◌, unless_refused}
-use Rattle.table.specs.Wiring.{wiring_cube}
-use Rattle.table.specs.Rules.{table_check, numbered_table_check, station_check}
+use Rattle.table.specs.Rules.{table_check, station_check}
 use Rattle.station.specs.Calls.{group_check, group_after, row_check, row_part, row_offset}
 use Rattle.station.specs.Calls.{assignment_check, assignment_answer, assignment_after, range_check}
 use Rattle.slots.specs.Board.{slot_check, slot_answer}
@@ -29,6 +28,8 @@ use Rattle.table.specs.Table.{row_start}
 use Rattle.table.proofs.CellLaws.{row-length}
 use Rattle.station.proofs.Refusals.{row_ok}
 use Rattle.table.proofs.SizeLaws.{size-bounds, size-dimension}
+use Rattle.table.specs.declared.wiring.Wiring.{Wiring}
+use Rattle.table.specs.declared.wiring.Wiring.TheVariants.{Cube}
 
 -- f gives the same of a number and of its byte
 abbrev pub Narrow {ℓ} : {A : Type ℓ} → (ℕ → A) → Type ℓ
@@ -71,10 +72,10 @@ pub station_far : (n : ℕ) → is_size n ≡ true → Far (station_check n)
 station_far n e = record { why = NoSuchStation; far = λ x h. rw (le-ltb x n (omega (arith, size-bounds n e))) }
 
 -- the row of a station
-module _ (w n : ℕ) (t : List ℕ) where
+module _ (w : Wiring) (n : ℕ) (t : List ℕ) where
   row_far : Far (row_check w n t)
   unfolding row_check
-  row_far = behind (numbered_table_check w n t) _ (λ z. station_far n (table_ok w n t tt z).size)
+  row_far = behind (table_check w n t) _ (λ z. station_far n (table_ok w n t tt z).size)
 
   pub row_check_narrow : Narrow (row_check w n t)
   row_check_narrow = checked _ row_far
@@ -109,8 +110,8 @@ module _ (w n : ℕ) (t : List ℕ) where
 -- the assignment and the slot of a station
 module _ (n : ℕ) (t : List ℕ) where
   -- a check of a valid table, then of the station, then more
-  behind_table : (g : ℕ → Check) → Far (λ x. table_check n t and station_check n x and g x)
-  behind_table g = behind (table_check n t) _ (λ z. before _ _ (station_far n (table_ok wiring_cube n t tt z).size))
+  behind_table : (g : ℕ → Check) → Far (λ x. table_check Cube n t and station_check n x and g x)
+  behind_table g = behind (table_check Cube n t) _ (λ z. before _ _ (station_far n (table_ok Cube n t tt z).size))
 
   assignment_far : (len : ℕ) → Far (λ x. assignment_check n t x len)
   unfolding assignment_check

@@ -12,7 +12,7 @@ use Rattle.lists.specs.declared.refusal.Refusal.TheVariants.{SizeOutOfRange}
 use Rattle.lists.specs.Refusal.{ensure, number_of_result}
 use Rattle.lists.proofs.RefusalLaws.{and_ok, ensure_ok}
 use Rattle.table.specs.Sizes.{is_size}
-use Rattle.table.specs.Wiring.{wiring_check}
+use Rattle.table.specs.declared.wiring.Wiring.{Wiring}
 use Rattle.station.specs.declared.outcome.Outcome.{Outcome}
 use Rattle.station.specs.Outcome.{outcome_byte}
 use Rattle.board.specs.Board.{left_told, joined}
@@ -22,17 +22,16 @@ use Rattle.board.specs.Calls.{next_answer, replied_answer, not_replied_answer}
 use Rattle.board.specs.Calls.{fresh_after, row_sent, replied_after, not_replied_after, told_after, exchanged_after, closed_after}
 use Rattle.vcube.proofs.Narrow.{Narrow, Far, behind, before, checked, answered, left, station_far}
 
-place_size : (w n i len : ℕ) → place_check w n i len ≡ Ok tt → is_size n ≡ true
+place_size : (w : Wiring) (n i len : ℕ) → place_check w n i len ≡ Ok tt → is_size n ≡ true
 unfolding place_check
-place_size w n i len e = ensure_ok _ _ tt (and_ok _ _ tt (and_ok _ _ tt e).1).0
+place_size w n i len e = ensure_ok _ _ tt (and_ok _ _ tt e).0
 
-module _ (w n : ℕ) where
+module _ (w : Wiring) (n : ℕ) where
   place_far : (len : ℕ) → Far (λ i. place_check w n i len)
   unfolding place_check
   place_far len =
-      behind (wiring_check w) _
-      (λ a. behind (ensure (is_size n) SizeOutOfRange) _
-      (λ z. before _ _ (station_far n (ensure_ok _ _ tt z))))
+      behind (ensure (is_size n) SizeOutOfRange) _
+      (λ z. before _ _ (station_far n (ensure_ok _ _ tt z)))
 
   line_far : (l : List ℕ) → Far (λ i. line_check w n i l)
   unfolding line_check

@@ -12,10 +12,10 @@ use Rattle.lists.specs.Refusal.{Check, unless_refused}
 use Rattle.lists.specs.declared.refusal.Refusal.{Refusal}
 use Rattle.station.proofs.Refusals.{row_ok, accepted_top}
 use Rattle.table.proofs.CellLaws.{row-length}
-use Rattle.vcube.specs.Exports.{IsRowAt}
+use Rattle.table.specs.declared.wiring.Wiring.{Wiring}
 use Rattle.vcube.proofs.Narrow.{row_check_narrow, row_offset_ok, row_offset_err, row_part_ok, row_part_err}
 
-row-part-out : (w n : ℕ) (t : List ℕ) (i : ℕ) → take (length (row_part w n t i)) (drop (row_offset w n t i) t) ≡ row_part w n t i
+row-part-out : (w : Wiring) (n : ℕ) (t : List ℕ) (i : ℕ) → take (length (row_part w n t i)) (drop (row_offset w n t i) t) ≡ row_part w n t i
 unfolding row_part row_offset row
 row-part-out w n t i = pick (row_check w n t i) refl
   where
@@ -24,17 +24,20 @@ row-part-out w n t i = pick (row_check w n t i) refl
     pick (Ok x) e = let z = row_ok w n t i x e in rw (row-length n t i z.0.long z.1)
     pick (Err r) e = refl
 
-row_lies : (w n : ℕ) (t : List ℕ) (i start bytes : ℕ) → start ≡ row_offset w n t i → bytes ≡ length (row_part w n t i) → IsRowAt w n t i start bytes
+row_lies : (w : Wiring) (n : ℕ) (t : List ℕ) (i start bytes : ℕ) → start ≡ row_offset w n t i → bytes ≡ length (row_part w n t i)
+    → slice_range t start (start + bytes) ≡ row_part w n t i
 row_lies w n t i start bytes s b =
     let e : start + bytes - start ≡ bytes = omega arith in
     let same : slice_range t start (start + bytes) ≡ take bytes (drop start t) = ap (λ k. take k (drop start t)) e in
     same ∙ rw (b, s) (row-part-out w n t i)
 
 -- of a row that is not refused, and of one that is, by the station's byte
-pub row_at_ok : (w n : ℕ) (t : List ℕ) (x b : ℕ) (y : Unit {0}) → b ≡ min x 255 → row_check w n t b ≡ Ok y → IsRowAt w n t x (row_start n b) n
+pub row_at_ok : (w : Wiring) (n : ℕ) (t : List ℕ) (x b : ℕ) (y : Unit {0}) → b ≡ min x 255 → row_check w n t b ≡ Ok y
+    → slice_range t (row_start n b) (row_start n b + n) ≡ row_part w n t x
 row_at_ok w n t x b y e z = row_lies w n t x (row_start n b) n (sym (row_offset_ok w n t x b y e z)) (sym (row_part_ok w n t x b y e z))
 
-pub row_at_err : (w n : ℕ) (t : List ℕ) (x b : ℕ) (r : Refusal) → b ≡ min x 255 → row_check w n t b ≡ Err r → IsRowAt w n t x 0 0
+pub row_at_err : (w : Wiring) (n : ℕ) (t : List ℕ) (x b : ℕ) (r : Refusal) → b ≡ min x 255 → row_check w n t b ≡ Err r
+    → slice_range t 0 0 ≡ row_part w n t x
 row_at_err w n t x b r e z = row_lies w n t x 0 0 (sym (row_offset_err w n t x b r e z)) (sym (row_part_err w n t x b r e z))
 
 -- what `vcube_row` answers

@@ -3,25 +3,29 @@
 -- it leaves in the variables, a tally is handed in by its parts, and figures and totals are the members of a struct in their order.
 -- A station, level or last number may be any; the definitions of `station` and `granter` refuse it as they refuse any that is too high.
 -- Assumes nothing.
-use Rattle.std.specs.Prelude.{◌≡◌, ℕ, ◌+◌, ◌*◌, ◌==◌, if◌then◌else◌, List, [], ◌∷◌, length, replicate, Option, Some, None, option_map, unwrap_or}
-use Rattle.std.specs.Prelude.{Result, Ok, Err, slice_index, slice_range}
+use Rattle.std.specs.Prelude.{ℕ, ◌+◌, ◌*◌, ◌==◌, if◌then◌else◌, List, [], ◌∷◌, length, replicate, Option, Some, None, option_map, unwrap_or}
+use Rattle.std.specs.Prelude.{Result, Ok, Err, slice_index}
 use Rattle.std.specs.Result.{result_unwrap_or, result_ok}
 use Rattle.std.proofs.lemmas.List.Edits.{sets}
 use Rattle.lists.specs.declared.refusal.Refusal.{Refusal}
 use Rattle.lists.specs.Refusal.{Check, ◌and◌, number_of, number_of_result, unless_refused, refusal_words, refusal_with}
 use Rattle.table.specs.Rules.{length_check}
 use Rattle.table.specs.Status.{status_of, status_words}
+use Rattle.table.specs.Wiring.{wiring_of}
+use Rattle.table.specs.declared.wiring.Wiring.{Wiring}
+use Rattle.lists.specs.declared.refusal.Refusal.TheVariants.{NoSuchWiring}
 use Rattle.station.specs.Outcome.{outcome_with, outcome_words}
 use Rattle.slots.specs.Board.{slot_answer}
 use Rattle.slots.specs.declared.board.Slot.{Slot}
 use Rattle.latency.specs.Wait.{wait_answer}
 use Rattle.latency.specs.declared.wait.Wait.{Wait}
+use Rattle.single_crash.specs.Bounds.{one_dead_answer}
+use Rattle.single_crash.specs.declared.bounds.OneDead.{OneDead}
 use Rattle.input.specs.Input.{Reading, lines, read_input}
 use Rattle.input.specs.Fault.{fault_in}
 use Rattle.input.specs.Words.{fault_words}
-use Rattle.station.specs.Calls.{row_part}
 use Rattle.plant.specs.declared.Tally.{Tally}
-use Rattle.plant.specs.Entry.{state_of}
+use Rattle.plant.specs.Entry.{State, state_of}
 use Rattle.plant.specs.Run.{RunResult}
 use Rattle.granter.specs.Drive.{DriveResult, drive_outcome}
 use Rattle.lamp.specs.declared.Doubt.{Doubt}
@@ -33,17 +37,34 @@ use Rattle.figures.specs.declared.Totals.{Totals}
 abbrev pub version_number : ℕ → ℕ → ℕ → ℕ
 version_number major minor patch = 10000 * major + 100 * minor + patch
 
--- Row: the part of the table with this start and so many bytes is the row, and has none where it is refused
-abbrev pub IsRowAt : ℕ → ℕ → List ℕ → ℕ → ℕ → ℕ → Type 0
-IsRowAt w n t i start bytes = slice_range t start (start + bytes) ≡ row_part w n t i
+-- Rule Wiring number: what a call answers or leaves that is given a wiring by its number: what stands first where refusal 24 applies, else what the
+-- call on that wiring answers or leaves
+abbrev pub by_wiring {ℓ} : {A : Type ℓ} → Result Wiring Refusal → A → (Wiring → A) → A
+by_wiring (Ok w) refused call = call w
+by_wiring (Err r) refused call = refused
+
+unfoldable pub on_wiring {ℓ} : {A : Type ℓ} → ℕ → A → (Wiring → A) → A
+on_wiring number refused call = by_wiring (wiring_of number) refused call
+
+-- the number of refusal 24: there is no such wiring
+abbrev pub no_such_wiring : ℕ
+no_such_wiring = number_of NoSuchWiring
 
 -- Rule Exact calls, for C. Run: the outcome by its parts: the number, the entries taken, table, rounds and tests, and the sheet
 abbrev pub outcome_out : ℕ → ℕ → List ℕ → ℕ → ℕ → List ℕ → RunResult
 outcome_out number taken t rounds tests sheet = record { number = number; taken = taken; state = state_of t rounds tests; sheet = sheet }
 
+-- Run, of a number that is no wiring's: refused before anything
+abbrev pub run_on_none : State → List ℕ → RunResult
+run_on_none s sheet = record { number = no_such_wiring; taken = 0; state = s; sheet = sheet }
+
 -- Drive: the outcome by its parts: the number, table, rounds and tests, the last granted number and the grants made
 abbrev pub drive_out : ℕ → List ℕ → ℕ → ℕ → ℕ → ℕ → DriveResult
 drive_out number t rounds tests last grants = drive_outcome number (state_of t rounds tests) last grants
+
+-- Drive, of a number that is no wiring's
+abbrev pub drive_on_none : State → ℕ → DriveResult
+drive_on_none s last = drive_outcome no_such_wiring s last 0
 
 -- Doubt lamp: the number, and the two stations of the pair
 pub record PairResult : Type 0 where
@@ -132,8 +153,15 @@ abbrev pub wait_out : ℕ → ℕ → ℕ → ℕ → Wait
 wait_out rounds turns until from =
     record { rounds = rounds; turns_per_round = turns; turns_until_known = until; turns_from_crash = from }
 
-abbrev pub wait_figures : ℕ → ℕ → List ℕ → Wait
+abbrev pub wait_figures : Wiring → ℕ → List ℕ → Wait
 wait_figures w n t = result_unwrap_or (wait_answer w n t) (wait_out 0 0 0 0)
+
+-- One dead board: the two bounds, both 0 where the call is refused, and where nothing is claimed
+abbrev pub one_dead_out : ℕ → ℕ → OneDead
+one_dead_out rounds grants = record { rounds = rounds; grants = grants }
+
+abbrev pub one_dead_figures : Wiring → ℕ → OneDead
+one_dead_figures w n = unwrap_or (result_unwrap_or (one_dead_answer w n) None) (one_dead_out 0 0)
 
 -- a buffer for words has just so many bytes, of which the last is 0 in every answer
 abbrev pub words_length : ℕ

@@ -1,4 +1,4 @@
-// What is claimed of the words that the calls write (specs/WordsFit.antt), the contract of a function that does nothing.
+// What is claimed of the words that the calls write (specs/WordsFit.antt), each a clause of a function that does nothing.
 
 ghost use Rattle.vcube.specs.WordsFit.{RefusalWordsFit, StatusWordsFit, OutcomeWordsFit};
 

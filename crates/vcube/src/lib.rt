@@ -2,10 +2,10 @@
 // number of its refusal.
 #![tactic(auto)]
 
-ghost use Rattle.std.specs.Prelude.{◌≡◌, min, ◌++◌, length, ◌<◌};
+ghost use Rattle.std.specs.Prelude.{◌≡◌, min, ◌++◌, ◌+◌, length, ◌<◌, [], slice_range, IfOk};
 ghost use Rattle.std.specs.Result.{result_unwrap_or};
 ghost use Rattle.lists.specs.Refusal.{number_of_result};
-ghost use Rattle.table.specs.Rules.{numbered_shape_check};
+ghost use Rattle.table.specs.Rules.{shape_check};
 ghost use Rattle.table.specs.Fresh.{fresh_after};
 ghost use Rattle.station.specs.Calls.{group_refusal, group_after, row_refusal, row_part, row_offset, assignment_refusal, assignment_after};
 ghost use Rattle.station.specs.Calls.{assignment_count};
@@ -24,15 +24,18 @@ ghost use Rattle.saved.specs.Save.{save_refusal, save_after};
 ghost use Rattle.saved.specs.Convert.{convert_refusal, convert_after, converted_length, converted_length_refusal, length_figure};
 ghost use Rattle.figures.specs.Batch.{figures};
 ghost use Rattle.figures.specs.Totals.{totals, join, figures_of_totals};
-ghost use Rattle.vcube.specs.Exports.{IsRowAt, outcome_out, drive_out, pair_out, pair_of, tally_of, loaded_out, filled, figures_members};
+ghost use Rattle.table.specs.Wiring.{wiring_of};
+ghost use Rattle.vcube.specs.Exports.{on_wiring, no_such_wiring, run_on_none, drive_on_none};
+ghost use Rattle.vcube.specs.Exports.{outcome_out, drive_out, pair_out, pair_of, tally_of, loaded_out, filled, figures_members};
 ghost use Rattle.slots.specs.Board.{slot_answer};
 ghost use Rattle.latency.specs.Wait.{wait_answer};
+ghost use Rattle.single_crash.specs.Bounds.{one_dead_answer};
 ghost use Rattle.std.proofs.lemmas.List.Edits.{sets};
 ghost use Rattle.input.specs.Input.{read_input};
 ghost use Rattle.vcube.specs.WordsFit.{InputWordsFit};
 ghost use Rattle.vcube.specs.Exports.{schedule_length, words_length, worded, words_of_input, input_check, input_out, input_figures, schedule_after};
 ghost use Rattle.vcube.specs.Exports.{input_words_after};
-ghost use Rattle.vcube.specs.Exports.{slot_out, slot_figures, wait_out, wait_figures};
+ghost use Rattle.vcube.specs.Exports.{slot_out, slot_figures, wait_out, wait_figures, one_dead_out, one_dead_figures};
 ghost use Rattle.vcube.specs.Exports.{words_check, words_after, words_of_refusal, words_of_status, words_of_outcome};
 ghost use Rattle.vcube.specs.Exports.{version_number};
 ghost use Rattle.vcube.specs.Exports.{totals_members, totals_with, figures_out, totals_out};
@@ -48,37 +51,47 @@ use lists::bytes;
 use lists::refusal::{Refusal, number_of, parts};
 use plant::{Tally, run};
 use saved::{Loaded, convert, load, save};
+use single_crash::bounds;
 use slots::board::{self, Slot};
 use station::outcome::Outcome;
 use station::{due, groups, rows};
 use table::status::Status;
+use table::wiring::Wiring;
 use table::{Level, Station, cells, fresh};
 
 // Stands for the two stations of a pair where the doubt lamp has none, and for the station of a board's next test where there is none.
 const NO_STATION: u8 = 255;
 
+// Refusal 24.
+const NO_SUCH_WIRING: u8 = Refusal::NoSuchWiring as u8;
+
 // The version of the library, as in include/vcube.h.
 const MAJOR: u32 = 1;
 
-const MINOR: u32 = 3;
+const MINOR: u32 = 4;
 
 const PATCH: u32 = 0;
 
 // Version: that of the library, as one number.
 #[unsafe(no_mangle)]
 pub extern "C" fn vcube_version() -> u32
-    ensures { result ≡ version_number 1 3 0 }
+    ensures { result ≡ version_number 1 4 0 }
 {
     10000 * MAJOR + 100 * MINOR + PATCH
 }
 
 // Fresh table: every line live, next distance 1, byte 4 255, all else 0.
+#[tactic(auto, using(crate::proofs::OnWiring::on_each))]
 #[unsafe(no_mangle)]
 pub extern "C" fn vcube_fresh_table(wiring: usize, n: usize, table: &mut [u8]) -> u8
-    ensures number { result ≡ number_of_result (numbered_shape_check wiring n (length table.old)) }
-    ensures table_after { table.new ≡ fresh_after wiring n table.old }
+    ensures number { let len = length table.old in
+        result ≡ on_wiring wiring no_such_wiring (λ w. number_of_result (shape_check n len)) }
+    ensures table_after { table.new ≡ on_wiring wiring table.old (λ w. fresh_after n table.old) }
 {
-    number_of(fresh::fresh_table(wiring, n, table))
+    if Wiring::try_from(wiring).is_err() {
+        return NO_SUCH_WIRING;
+    }
+    number_of(fresh::fresh_table(n, table))
 }
 
 // Group list: the members of the station's group at that level, in order.
@@ -116,7 +129,7 @@ pub extern "C" fn vcube_assignment(
 }
 
 // Row: where the station's row begins in the table, and how many bytes it has; both 0 where it is refused.
-#[tactic(auto, using(crate::proofs::RowPart::row_laws))]
+#[tactic(auto, using(crate::proofs::OnWiring::on_each, crate::proofs::RowPart::row_laws))]
 #[unsafe(no_mangle)]
 pub extern "C" fn vcube_row(
     wiring: usize,
@@ -126,11 +139,20 @@ pub extern "C" fn vcube_row(
     start: &mut usize,
     bytes: &mut usize,
 ) -> u8
-    ensures number { result ≡ row_refusal wiring n table.now station }
-    ensures start_after { start.new ≡ row_offset wiring n table.now station }
-    ensures bytes_after { bytes.new ≡ length (row_part wiring n table.now station) }
-    ensures row_at { IsRowAt wiring n table.now station start.new bytes.new }
+    ensures number { let t = table.now in
+        result ≡ on_wiring wiring no_such_wiring (λ w. row_refusal w n t station) }
+    ensures start_after { let t = table.now in
+        start.new ≡ on_wiring wiring 0 (λ w. row_offset w n t station) }
+    ensures bytes_after { let t = table.now in
+        bytes.new ≡ on_wiring wiring 0 (λ w. length (row_part w n t station)) }
+    ensures row_at { slice_range table.now start.new (start.new + bytes.new)
+        ≡ on_wiring wiring [] (λ w. row_part w n table.now station) }
 {
+    let Ok(wiring) = Wiring::try_from(wiring) else {
+        *start = 0;
+        *bytes = 0;
+        return NO_SUCH_WIRING;
+    };
     let i = Station(byte_of(station));
     // Not by `parts`: where the row begins is asked only of a station that is not refused.
     match rows::check_row(wiring, n, table, i) {
@@ -149,6 +171,7 @@ pub extern "C" fn vcube_row(
 
 // Run: carries out a schedule on a table and the tally that rounds and tests hold, and fills the sheet. The tally given back is left in
 // rounds and tests, and how many entries were taken in taken.
+#[tactic(auto, using(crate::proofs::OnWiring::on_each))]
 #[unsafe(no_mangle)]
 pub extern "C" fn vcube_run(
     wiring: usize,
@@ -160,15 +183,20 @@ pub extern "C" fn vcube_run(
     sheet: &mut [u8],
     taken: &mut usize,
 ) -> u8
-    ensures outcome { outcome_out result taken.new table.new rounds.new tests.new sheet.new
-        ≡ run wiring n (state_of table.old rounds.old tests.old) schedule.now sheet.old }
-    ensures counts_taken { CountsTaken (call_of wiring n schedule.now sheet.old)
-        (state_of table.old rounds.old tests.old) taken.new }
-    ensures detection { DetectionInList (call_of wiring n schedule.now sheet.old)
-        (state_of table.old rounds.old tests.old) (state_of table.new rounds.new tests.new) }
-    ensures accurate { AccurateAfter (a_run (call_of wiring n schedule.now sheet.old))
-        (state_of table.old rounds.old tests.old) (state_of table.new rounds.new tests.new) }
+    ensures outcome { let s = state_of table.old rounds.old tests.old in
+        outcome_out result taken.new table.new rounds.new tests.new sheet.new
+        ≡ on_wiring wiring (run_on_none s sheet.old) (λ w. run w n s schedule.now sheet.old) }
+    ensures counts_taken { IfOk (wiring_of wiring) (λ w. CountsTaken (call_of w n schedule.now sheet.old)
+        (state_of table.old rounds.old tests.old) taken.new) }
+    ensures detection { IfOk (wiring_of wiring) (λ w. DetectionInList (call_of w n schedule.now sheet.old)
+        (state_of table.old rounds.old tests.old) (state_of table.new rounds.new tests.new)) }
+    ensures accurate { IfOk (wiring_of wiring) (λ w. AccurateAfter (a_run (call_of w n schedule.now sheet.old))
+        (state_of table.old rounds.old tests.old) (state_of table.new rounds.new tests.new)) }
 {
+    let Ok(wiring) = Wiring::try_from(wiring) else {
+        *taken = 0;
+        return NO_SUCH_WIRING;
+    };
     let tally = Tally {
         rounds: *rounds,
         tests: *tests,
@@ -181,7 +209,7 @@ pub extern "C" fn vcube_run(
 }
 
 // Grant: the station that is granted after the last one, 0 where it is refused.
-#[tactic(auto, using(granter::proofs::GrantLaws::grant_answer_refusal))]
+#[tactic(auto, using(crate::proofs::OnWiring::on_each, granter::proofs::GrantLaws::grant_answer_refusal))]
 #[unsafe(no_mangle)]
 pub extern "C" fn vcube_grant(
     wiring: usize,
@@ -190,9 +218,13 @@ pub extern "C" fn vcube_grant(
     last: usize,
     station: &mut usize,
 ) -> u8
-    ensures number { result ≡ grant_refusal wiring n table.now last }
-    ensures station_after { station.new ≡ grant_station wiring n table.now last }
+    ensures number { result ≡ on_wiring wiring no_such_wiring (λ w. grant_refusal w n table.now last) }
+    ensures station_after { station.new ≡ on_wiring wiring 0 (λ w. grant_station w n table.now last) }
 {
+    let Ok(wiring) = Wiring::try_from(wiring) else {
+        *station = 0;
+        return NO_SUCH_WIRING;
+    };
     let (number, to) = parts(grant::grant(wiring, n, table, last), Station(0));
     *station = to.0 as usize;
     number
@@ -200,6 +232,7 @@ pub extern "C" fn vcube_grant(
 
 // Drive: grants and turns on a table and the tally that rounds and tests hold, until a round closes, nobody is left live, or a tally is
 // full. The tally and the last granted number that it gives back are left in rounds, tests and last, and the grants made in grants.
+#[tactic(auto, using(crate::proofs::OnWiring::on_each))]
 #[unsafe(no_mangle)]
 pub extern "C" fn vcube_drive(
     wiring: usize,
@@ -210,15 +243,20 @@ pub extern "C" fn vcube_drive(
     last: &mut usize,
     grants: &mut usize,
 ) -> u8
-    ensures outcome { drive_out result table.new rounds.new tests.new last.new grants.new
-        ≡ drive wiring n (state_of table.old rounds.old tests.old) last.old }
+    ensures outcome { let s = state_of table.old rounds.old tests.old in
+        drive_out result table.new rounds.new tests.new last.new grants.new
+        ≡ on_wiring wiring (drive_on_none s last.old) (λ w. drive w n s last.old) }
     ensures stopped_if_taken { let start = state_of table.old rounds.old tests.old in
-        StoppedIfTaken wiring n start last.old grants.new }
-    ensures detection { DrivenDetectionInList wiring n last.old
-        (state_of table.old rounds.old tests.old) (state_of table.new rounds.new tests.new) }
-    ensures accurate { AccurateAfter (a_drive wiring n last.old)
-        (state_of table.old rounds.old tests.old) (state_of table.new rounds.new tests.new) }
+        IfOk (wiring_of wiring) (λ w. StoppedIfTaken w n start last.old grants.new) }
+    ensures detection { IfOk (wiring_of wiring) (λ w. DrivenDetectionInList w n last.old
+        (state_of table.old rounds.old tests.old) (state_of table.new rounds.new tests.new)) }
+    ensures accurate { IfOk (wiring_of wiring) (λ w. AccurateAfter (a_drive w n last.old)
+        (state_of table.old rounds.old tests.old) (state_of table.new rounds.new tests.new)) }
 {
+    let Ok(wiring) = Wiring::try_from(wiring) else {
+        *grants = 0;
+        return NO_SUCH_WIRING;
+    };
     let tally = Tally {
         rounds: *rounds,
         tests: *tests,
@@ -232,6 +270,7 @@ pub extern "C" fn vcube_drive(
 }
 
 // Doubt lamp: the first live station that suspects a live one into by, and whom into of; 255 into both where there is none, 0 where it is refused.
+#[tactic(auto, using(crate::proofs::OnWiring::on_each))]
 #[unsafe(no_mangle)]
 pub extern "C" fn vcube_doubt_lamp(
     wiring: usize,
@@ -240,8 +279,14 @@ pub extern "C" fn vcube_doubt_lamp(
     by: &mut usize,
     of: &mut usize,
 ) -> u8
-    ensures { pair_out result by.new of.new ≡ pair_of (doubt_lamp wiring n table.now) }
+    ensures { pair_out result by.new of.new
+        ≡ on_wiring wiring (pair_out no_such_wiring 0 0) (λ w. pair_of (doubt_lamp w n table.now)) }
 {
+    let Ok(wiring) = Wiring::try_from(wiring) else {
+        *by = 0;
+        *of = 0;
+        return NO_SUCH_WIRING;
+    };
     let (number, i, k) = match lamp::doubt_lamp(wiring, n, table) {
         Ok(Some(doubt)) => (0, doubt.by.0, doubt.of.0),
         Ok(None) => (0, NO_STATION, NO_STATION),
@@ -254,6 +299,7 @@ pub extern "C" fn vcube_doubt_lamp(
 
 // Mend: after a brownout the table made to obey all rules, each changed byte listed in the report; how many they are into changes, 0 where it is
 // refused.
+#[tactic(auto, using(crate::proofs::OnWiring::on_each))]
 #[unsafe(no_mangle)]
 pub extern "C" fn vcube_mend(
     wiring: usize,
@@ -262,12 +308,19 @@ pub extern "C" fn vcube_mend(
     report: &mut [u8],
     changes: &mut usize,
 ) -> u8
-    ensures number { result ≡ number_of_result (mend wiring n table.old (length report.old)) }
-    ensures changes_after { changes.new
-        ≡ result_unwrap_or (mend wiring n table.old (length report.old)) 0 }
-    ensures mended_table { table.new ≡ table_after wiring n table.old (length report.old) }
-    ensures listed_changes { report.new ≡ report_after wiring n table.old report.old }
+    ensures number { let room = length report.old in
+        result ≡ on_wiring wiring no_such_wiring (λ w. number_of_result (mend w n table.old room)) }
+    ensures changes_after { let room = length report.old in
+        changes.new ≡ on_wiring wiring 0 (λ w. result_unwrap_or (mend w n table.old room) 0) }
+    ensures mended_table { let room = length report.old in
+        table.new ≡ on_wiring wiring table.old (λ w. table_after w n table.old room) }
+    ensures listed_changes { report.new
+        ≡ on_wiring wiring report.old (λ w. report_after w n table.old report.old) }
 {
+    let Ok(wiring) = Wiring::try_from(wiring) else {
+        *changes = 0;
+        return NO_SUCH_WIRING;
+    };
     let (number, listed) = parts(mender::mend(wiring, n, table, report), 0);
     *changes = listed;
     number
@@ -426,6 +479,7 @@ pub extern "C" fn vcube_slot(
 
 // Bounds of the wait: of the rounds and of the turns after which all live boards know all dead ones, by wiring, size and table; all 0 where it is
 // refused.
+#[tactic(auto, using(crate::proofs::OnWiring::on_each))]
 #[unsafe(no_mangle)]
 pub extern "C" fn vcube_wait(
     wiring: usize,
@@ -436,15 +490,50 @@ pub extern "C" fn vcube_wait(
     turns_until_known: &mut usize,
     turns_from_crash: &mut usize,
 ) -> u8
-    ensures number { result ≡ number_of_result (wait_answer wiring n table.now) }
+    ensures number { result
+        ≡ on_wiring wiring no_such_wiring (λ w. number_of_result (wait_answer w n table.now)) }
     ensures wait_after { wait_out rounds.new turns_per_round.new turns_until_known.new
-        turns_from_crash.new ≡ wait_figures wiring n table.now }
+        turns_from_crash.new ≡ on_wiring wiring (wait_out 0 0 0 0) (λ w. wait_figures w n table.now) }
 {
+    let Ok(wiring) = Wiring::try_from(wiring) else {
+        *rounds = 0;
+        *turns_per_round = 0;
+        *turns_until_known = 0;
+        *turns_from_crash = 0;
+        return NO_SUCH_WIRING;
+    };
     let (number, wait) = parts(wait::wait_of(wiring, n, table), Wait::default());
     *rounds = wait.rounds as usize;
     *turns_per_round = wait.turns_per_round as usize;
     *turns_until_known = wait.turns_until_known as usize;
     *turns_from_crash = wait.turns_from_crash as usize;
+    number
+}
+
+// One dead board under a bus master, with nobody dead before: after how many rounds and grants it is known everywhere, into rounds and grants; both 0
+// where it is refused, and at a size for which nothing is proved.
+#[tactic(auto, using(crate::proofs::OnWiring::on_each))]
+#[unsafe(no_mangle)]
+pub extern "C" fn vcube_one_dead(
+    wiring: usize,
+    n: usize,
+    rounds: &mut usize,
+    grants: &mut usize,
+) -> u8
+    ensures number { result
+        ≡ on_wiring wiring no_such_wiring (λ w. number_of_result (one_dead_answer w n)) }
+    ensures bounds_after { one_dead_out rounds.new grants.new
+        ≡ on_wiring wiring (one_dead_out 0 0) (λ w. one_dead_figures w n) }
+{
+    let Ok(wiring) = Wiring::try_from(wiring) else {
+        *rounds = 0;
+        *grants = 0;
+        return NO_SUCH_WIRING;
+    };
+    let (number, known) = parts(bounds::one_dead(wiring, n), None);
+    let known = known.unwrap_or_default();
+    *rounds = known.rounds as usize;
+    *grants = known.grants as usize;
     number
 }
 

@@ -13,9 +13,7 @@ use Rattle.lists.proofs.Writing.{sets-front}
 use Rattle.table.specs.Sizes.{is_size}
 use Rattle.table.specs.Table.{table_length}
 use Rattle.table.specs.declared.wiring.Wiring.{Wiring}
-use Rattle.table.specs.declared.wiring.Wiring.TheVariants.{Cube, Ring}
-use Rattle.table.specs.Wiring.{wiring_number, wiring_check}
-use Rattle.table.specs.Rules.{shape_check, table_check_on}
+use Rattle.table.specs.Rules.{shape_check, table_check}
 use Rattle.table.specs.Fresh.{fresh_table, fresh_after}
 use Rattle.plant.specs.declared.Ran.{Ran as RanPlant}
 use Rattle.plant.specs.Entry.{State, state_of}
@@ -28,16 +26,11 @@ use Rattle.watch.specs.Watched.{Answer, said, says_run, said_with, watched_with,
 use Rattle.input.proofs.ReadLaws.{read_fits}
 use Rattle.input.proofs.AnswerLaws.{answer-ok, answer-err, read-whole}
 
--- the number of a wiring is not refused
-number-taken : (wiring : Wiring) → wiring_check (wiring_number wiring) ≡ Ok tt
-number-taken Cube = refl
-number-taken Ring = refl
-
 -- a run of what is no size is refused, whatever the table
 size-refused : (wiring : Wiring) (n : ℕ) (s : State) (schedule sheet : List ℕ) → is_size n ≡ false
-    → run (wiring_number wiring) n s schedule sheet ≡ record { number = 1; taken = 0; state = s; sheet = sheet }
-unfolding run start_check table_check_on shape_check
-size-refused wiring n s schedule sheet e = rw (number-taken wiring, e)
+    → run wiring n s schedule sheet ≡ record { number = 1; taken = 0; state = s; sheet = sheet }
+unfolding run start_check table_check shape_check
+size-refused wiring n s schedule sheet e = rw e
 
 -- a part that comes back as it was lent
 part-back : (k : ℕ) (l : List ℕ) → sets l 0 (take k l) ≡ l
@@ -62,7 +55,7 @@ carried-refused wiring n schedule lent e =
 -- a run on the lent table after it was made fresh, with the first k bytes of a lent sheet, answers what a run of a fresh table answers
 pub carried : (wiring : Wiring) (n : ℕ) (t schedule lent : List ℕ) (r : RanPlant) (t' s' : List ℕ) (k : ℕ)
     → (is_size n ≡ true → length t ≡ table_length n) → k ≡ 2 * length schedule → length s' ≡ k → k ≤ length lent
-    → outcome_with r t' s' ≡ run (wiring_number wiring) n (state_of (fresh_after (wiring_number wiring) n t) 0 0) schedule (take k lent)
+    → outcome_with r t' s' ≡ run wiring n (state_of (fresh_after n t) 0 0) schedule (take k lent)
     → watched_with (Ok r) (s' ++ drop k lent) ≡ carried_out wiring n schedule lent
 unfolding fresh_after shape_check
 carried wiring n t schedule lent r t' s' k shaped twice long fits e = pick (is_size n) refl
@@ -72,12 +65,12 @@ carried wiring n t schedule lent r t' s' k shaped twice long fits e = pick (is_s
 
     pick : (b : Bool) → is_size n ≡ b → watched_with (Ok r) (s' ++ drop k lent) ≡ carried_out wiring n schedule lent
     pick true y =
-        let f : fresh_after (wiring_number wiring) n t ≡ fresh_table n =
-        rw (number-taken wiring, y, eq-eqb (length t) (table_length n) (shaped y)) in
+        let f : fresh_after n t ≡ fresh_table n =
+        rw (y, eq-eqb (length t) (table_length n) (shaped y)) in
         let g = rw f at e in
         rw (← twice, ← g) (rw (sym front))
     pick false y =
-        let g = e ∙ size-refused wiring n (state_of (fresh_after (wiring_number wiring) n t) 0 0) schedule (take k lent) y in
+        let g = e ∙ size-refused wiring n (state_of (fresh_after n t) 0 0) schedule (take k lent) y in
         let p : said (Ok r) ≡ says_run refused = ap (λ (o : RunResult). says_run (run_answer o)) g in
         let q : s' ≡ take k lent = ap (λ (o : RunResult). o.sheet) g in
         rw (carried-refused wiring n schedule lent y, p, q, take-append-drop)

@@ -3,7 +3,6 @@
 use Rattle.std.specs.Prelude.{ℕ, ◌*◌, List, length, take, Result, Ok, Err, if◌then◌else◌, ◌==◌}
 use Rattle.std.proofs.lemmas.List.Edits.{sets}
 use Rattle.table.specs.declared.wiring.Wiring.{Wiring}
-use Rattle.table.specs.Wiring.{wiring_number}
 use Rattle.table.specs.Fresh.{fresh_table}
 use Rattle.plant.specs.declared.Ran.{Ran}
 use Rattle.plant.specs.declared.Tally.{Tally}
@@ -52,7 +51,7 @@ ran_on lent o = said_with (says_run (run_answer o)) (sets lent 0 o.sheet)
 -- length
 abbrev pub carried_out : Wiring → ℕ → List ℕ → List ℕ → Watched
 carried_out wiring n schedule lent =
-    ran_on lent (run (wiring_number wiring) n (state_of (fresh_table n) 0 0) schedule (take (2 * length schedule) lent))
+    ran_on lent (run wiring n (state_of (fresh_table n) 0 0) schedule (take (2 * length schedule) lent))
 
 -- what comes of a reading: the number of the first unreadable line and nothing else, or the run
 abbrev watched_of : Wiring → List ℕ → Reading → Watched

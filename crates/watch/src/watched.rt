@@ -2,7 +2,6 @@
 ghost use Rattle.std.specs.Prelude.{◌≡◌, ℕ, List, ◌++◌, Ok, true, false, ◌*◌, ◌≤◌, length, IfErr};
 ghost use Rattle.table.specs.Sizes.{is_size};
 ghost use Rattle.table.specs.Table.{greatest_table, table_length};
-ghost use Rattle.table.specs.Wiring.{wiring_number};
 ghost use Rattle.table.specs.Fresh.{fresh_after};
 ghost use Rattle.plant.specs.Entry.{state_of};
 ghost use Rattle.plant.specs.Run.{outcome_with, run};
@@ -66,20 +65,11 @@ fn run_fresh(
     table: &mut [u8],
     sheet: &mut [u8],
 ) -> Ran
-    ensures { let w = wiring_number wiring in
-        let start = state_of (fresh_after w size table.old) 0 0 in
-        outcome_with result table.new sheet.new ≡ run w size start schedule.now sheet.old }
+    ensures { let start = state_of (fresh_after size table.old) 0 0 in
+        outcome_with result table.new sheet.new ≡ run wiring size start schedule.now sheet.old }
 {
-    let number = number_of(wiring);
-    let _ = fresh::fresh_table(number, size, table);
-    run::run(number, size, table, Tally::default(), schedule, sheet)
-}
-
-// The number of a wiring.
-fn number_of(wiring: Wiring) -> usize
-    ensures { result ≡ wiring_number wiring }
-{
-    wiring as usize
+    let _ = fresh::fresh_table(size, table);
+    run::run(wiring, size, table, Tally::default(), schedule, sheet)
 }
 
 // The length of the part of the table that a plant of this size has; 0 for what is no size, which the run refuses: of an Option the caller would

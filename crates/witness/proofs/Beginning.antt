@@ -7,17 +7,17 @@ use Prim.Native.Nat.{ℕ, ◌+◌, ◌*◌, ◌/◌, ◌%◌, ◌<◌}
 use native.Mathlib.Nat.{mod-eq_of_lt, mul-add-mod_self_right, div-eq_of_lt, add-mul-div_right, add_comm}
 use native.Mathlib.Omega.{arith}
 use lib.ListN.{length}
-use Rattle.std.specs.Prelude.{Ok}
 use Rattle.lists.specs.Search.{list_of}
 use Rattle.lists.proofs.SearchLaws.{every-all, list_of-length, list_of-at}
 use Rattle.table.specs.Sizes.{is_size}
-use Rattle.table.specs.Wiring.{wiring_check, end_distance}
+use Rattle.table.specs.Wiring.{end_distance}
 use Rattle.table.specs.Table.{stride, table_length, line_start, cell, next_column, finished_column, tests_column, next_distance, finished, tests_made}
-use Rattle.table.specs.Rules.{wired_line_rules}
+use Rattle.table.specs.Rules.{line_rules}
 use Rattle.table.specs.Properties.{line_at_start, at_start}
 use Rattle.table.proofs.Accepting.{Accepted}
 use Rattle.table.proofs.CellLaws.{line-inside, Pass, Line, line-holds}
 use Rattle.table.proofs.WiringLaws.{end-pos}
+use Rattle.table.specs.declared.wiring.Wiring.{Wiring}
 use Rattle.plant.proofs.RulesKept.{unfinished-open}
 
 -- a table by its bytes: line and column
@@ -50,7 +50,7 @@ begun-by n f next finish tests = record {
   tests = λ i h. by-cell n f i tests_column h (omega arith) ∙ tests i;
 }
 
-module _ (w n : ℕ) (t : List ℕ) (b : Begun n t) where
+module _ (w : Wiring) (n : ℕ) (t : List ℕ) (b : Begun n t) where
   pub begun-pass : (i : ℕ) → i < n → Pass (end_distance w n) (next_distance n t i) (finished n t i) (tests_made n t i)
   begun-pass i h =
       rw (b.next i h, b.finish i h, b.tests i h)
@@ -67,11 +67,10 @@ module _ (w n : ℕ) (t : List ℕ) (b : Begun n t) where
   begun-start = every-all (line_at_start n t) n (λ i h. rw (b.next i h, b.finish i h, b.tests i h))
 
   -- where bytes 0, 4 and 5 and the rows obey the rules too
-  pub begun-accepted : wiring_check w ≡ Ok tt → is_size n ≡ true → ((i : ℕ) → i < n → Line w n t i) → Accepted w n t
-  begun-accepted wired size lines = record {
-    wired = wired;
+  pub begun-accepted : is_size n ≡ true → ((i : ℕ) → i < n → Line w n t i) → Accepted w n t
+  begun-accepted size lines = record {
     size = size;
     long = b.long;
-    lines = every-all (wired_line_rules w n t) n (λ i h. line-holds w n t i (lines i h));
+    lines = every-all (line_rules w n t) n (λ i h. line-holds w n t i (lines i h));
     unclosed = unfinished-open n t b.finish;
   }

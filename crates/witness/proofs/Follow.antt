@@ -13,12 +13,13 @@ use Rattle.lists.proofs.BoolLaws.{by_bool}
 use Rattle.lists.proofs.SearchLaws.{both, every-at, every-all, every-not, least-is, least-none}
 use Rattle.lists.specs.Search.{every}
 use Rattle.table.specs.Sizes.{is_size, distances}
-use Rattle.table.specs.Wiring.{wiring_cube, end_distance}
+use Rattle.table.specs.Wiring.{end_distance}
 use Rattle.table.specs.Table.{head, next_column, next_distance, finished, live, row}
 use Rattle.table.specs.Rules.{not_live, some_live, finished_if_live, live_finished, round_over}
 use Rattle.table.proofs.Accepting.{Accepted}
 use Rattle.table.proofs.CellLaws.{accepted-line}
 use Rattle.table.proofs.SizeLaws.{size-distances}
+use Rattle.table.specs.declared.wiring.Wiring.TheVariants.{Cube}
 use Rattle.station.specs.Groups.{station_at}
 use Rattle.station.specs.Wired.{wired_due}
 use Rattle.station.specs.Tests.{due}
@@ -77,8 +78,8 @@ module _ (n N : ℕ) (L : ℕ → Bool) (low : n ≤ N) (absent : (k : ℕ) → 
   -- and so are the tables that the closing leaves
   reset-same : (t u : List ℕ) → Same t u → Same (reset_lines n t) (reset_lines N u)
   reset-same t u like = record {
-    small = (reset-rows wiring_cube n L t like.small).0;
-    big = (reset-rows wiring_cube N L u like.big).0;
+    small = (reset-rows Cube n L t like.small).0;
+    big = (reset-rows Cube N L u like.big).0;
     finish = λ k l. (reset-cells N u like.big.lines.0 k (omega (arith, below k l))).unfinished
         ∙ sym (reset-cells n t like.small.lines.0 k (below k l)).unfinished;
     rows = λ k y l b. reset-other N u k (head + y) (omega arith) (λ p. omega arith)
@@ -94,11 +95,11 @@ module _ (n N : ℕ) (L : ℕ → Bool) (low : n ≤ N) (absent : (k : ℕ) → 
     pub like : Same s.table w.table
     pub next : NextSame s.table w.table
     pub rounds : w.rounds ≡ s.rounds
-    pub ok : Accepted wiring_cube n s.table
-    pub Ok : Accepted wiring_cube N w.table
+    pub ok : Accepted Cube n s.table
+    pub Ok : Accepted Cube N w.table
 
   -- a turn of i in the first plant, which is taken
-  module _ (s : State) (i : ℕ) (ok : Accepted wiring_cube n s.table) (z : entry_refusal n s (entry_of kind_turn i) ≡ 0) (li : L i ≡ true) where
+  module _ (s : State) (i : ℕ) (ok : Accepted Cube n s.table) (z : entry_refusal n s (entry_of kind_turn i) ≡ 0) (li : L i ≡ true) where
     abbrev t : List ℕ
     t = s.table
 
@@ -106,18 +107,18 @@ module _ (n N : ℕ) (L : ℕ → Bool) (low : n ≤ N) (absent : (k : ℕ) → 
     e = entry_of kind_turn i
 
     abbrev t' : List ℕ
-    t' = turn wiring_cube n t kind_turn i
+    t' = turn Cube n t kind_turn i
 
     facts : Takes n s e
     facts = entry-facts n s e z
 
     going : finished n t i ≡ 0
-    going = omega (arith, facts.unfinished (λ q. omega arith), (accepted-line wiring_cube n t ok i (below i li)).pass.finished_range)
+    going = omega (arith, facts.unfinished (λ q. omega arith), (accepted-line Cube n t ok i (below i li)).pass.finished_range)
 
     -- the second plant, behind turns of i that test boards from n on
     pub record Ahead (w : State) : Type 0 where
       pub like : Same t w.table
-      pub Ok : Accepted wiring_cube N w.table
+      pub Ok : Accepted Cube N w.table
       pub rounds : w.rounds ≡ s.rounds
       pub others : (k : ℕ) → L k ≡ true → k ≢ i → next_distance N w.table k ≡ next_distance n t k
       pub from : next_distance n t i ≤ next_distance N w.table i
@@ -128,7 +129,7 @@ module _ (n N : ℕ) (L : ℕ → Bool) (low : n ≤ N) (absent : (k : ℕ) → 
       u = w.table
 
       abbrev u' : List ℕ
-      u' = turn wiring_cube N u kind_turn i
+      u' = turn Cube N u kind_turn i
 
       h : i < N
       h = omega (arith, below i li)
@@ -146,52 +147,52 @@ module _ (n N : ℕ) (L : ℕ → Bool) (low : n ≤ N) (absent : (k : ℕ) → 
           (λ g. due-none n N L low absent t u b.like i li y g)
 
       -- none is due below the next test
-      undue-to : (y : ℕ) → next_distance n t i ≤ y → y < next_test wiring_cube N u i → due (row n t i) i y ≡ false
+      undue-to : (y : ℕ) → next_distance n t i ≤ y → y < next_test Cube N u i → due (row n t i) i y ≡ false
       unfolding wired_due
       undue-to y lo hi =
-          by_cases (dec_lt y (next_distance N u i)) (λ g. b.undue y lo g) (λ g. small-due y (not-due-before wiring_cube N u i y (omega arith) hi))
+          by_cases (dec_lt y (next_distance N u i)) (λ g. b.undue y lo g) (λ g. small-due y (not-due-before Cube N u i y (omega arith) hi))
 
-      tests-after : (after wiring_cube N w e).tests ≤ suc w.tests
+      tests-after : (after Cube N w e).tests ≤ suc w.tests
       unfolding after
-      tests-after = by_bool (is_test wiring_cube N u e) (λ q. rw q (omega arith)) (λ q. rw q (omega arith))
+      tests-after = by_bool (is_test Cube N u e) (λ q. rw q (omega arith)) (λ q. rw q (omega arith))
 
       -- a turn that tests a board from n on
-      module _ (E : makes_test wiring_cube N u i ≡ true) (out : ¬ (station_at i (next_test wiring_cube N u i) < n)) where
+      module _ (E : makes_test Cube N u i ≡ true) (out : ¬ (station_at i (next_test Cube N u i) < n)) where
         like' : Same t u'
         like' = extra n N L low absent size Size levels company t u b.like i li going E out
 
         open-still : round_over N u' ≡ false
         open-still = over-same t u' like' i li ∙ ok.unclosed
 
-        left-table : (after wiring_cube N w e).table ≡ u'
+        left-table : (after Cube N w e).table ≡ u'
         unfolding after after_round acted
         left-table = rw open-still
 
-        left-rounds : (after wiring_cube N w e).rounds ≡ w.rounds
+        left-rounds : (after Cube N w e).rounds ≡ w.rounds
         unfolding after acted
         left-rounds = rw open-still
 
-        heads : Heads wiring_cube N u u' i (outcome_at wiring_cube N u kind_turn i (next_test wiring_cube N u i)) (makes_test wiring_cube N u i)
+        heads : Heads Cube N u u' i (outcome_at Cube N u kind_turn i (next_test Cube N u i)) (makes_test Cube N u i)
         heads = Heads-of n N L low absent size Size levels company t u b.like i li going
 
-        next-is : next_distance N u' i ≡ next_test wiring_cube N u i + 1
+        next-is : next_distance N u' i ≡ next_test Cube N u i + 1
         unfolding next_after
         next-is = rw E at heads.next
 
-        pub further : Ahead (after wiring_cube N w e)
+        pub further : Ahead (after Cube N w e)
         further = record {
           like = rw left-table like';
-          Ok = accepted-kept wiring_cube N w e b.Ok taken;
+          Ok = accepted-kept Cube N w e b.Ok taken;
           rounds = left-rounds ∙ b.rounds;
           others = λ k l ne. rw left-table (heads.others k next_column ne (omega arith) ∙ b.others k l ne);
-          from = rw left-table (omega (arith, next-is, b.from, next_test-low wiring_cube N u i));
-          undue = λ y lo hi. by_cases (dec_lt y (next_test wiring_cube N u i)) (λ g. undue-to y lo g)
+          from = rw left-table (omega (arith, next-is, b.from, next_test-low Cube N u i));
+          undue = λ y lo hi. by_cases (dec_lt y (next_test Cube N u i)) (λ g. undue-to y lo g)
               (λ g.
-              let here : y ≡ next_test wiring_cube N u i = omega (arith, next-is, rw left-table at hi) in
-              rw here (due-none n N L low absent t u b.like i li (next_test wiring_cube N u i) out));
+              let here : y ≡ next_test Cube N u i = omega (arith, next-is, rw left-table at hi) in
+              rw here (due-none n N L low absent t u b.like i li (next_test Cube N u i) out));
         }
 
-        pub further-next : next_distance N (after wiring_cube N w e).table i ≡ next_test wiring_cube N u i + 1
+        pub further-next : next_distance N (after Cube N w e).table i ≡ next_test Cube N u i + 1
         further-next = rw left-table next-is
 
       -- the turn that is that of the first plant
@@ -203,13 +204,13 @@ module _ (n N : ℕ) (L : ℕ → Bool) (low : n ≤ N) (absent : (k : ℕ) → 
         next-all k l =
             by_cases (ℕ_discrete k i) (λ q. rw q next')
             (λ q. (Heads-of n N L low absent size Size levels company t u b.like i li going).others k next_column q (omega arith)
-            ∙ (b.others k l q ∙ sym ((turn-heads wiring_cube n t kind_turn i b.like.small.lines (below i li)).others k next_column q (omega arith))))
+            ∙ (b.others k l q ∙ sym ((turn-heads Cube n t kind_turn i b.like.small.lines (below i li)).others k next_column q (omega arith))))
 
-        like-after : Same (after wiring_cube n s e).table (after wiring_cube N w e).table
+        like-after : Same (after Cube n s e).table (after Cube N w e).table
         unfolding after after_round acted
         like-after = by_bool (round_over n t') (λ o. rw (over ∙ o, o) (reset-same t' u' like')) (λ o. rw (over ∙ o, o) like')
 
-        next-after : NextSame (after wiring_cube n s e).table (after wiring_cube N w e).table
+        next-after : NextSame (after Cube n s e).table (after Cube N w e).table
         unfolding after after_round acted
         next-after k l =
             by_bool (round_over n t')
@@ -217,55 +218,55 @@ module _ (n N : ℕ) (L : ℕ → Bool) (low : n ≤ N) (absent : (k : ℕ) → 
             ∙ sym (reset-cells n t' like'.small.lines.0 k (below k l)).next))
             (λ o. rw (over ∙ o, o) (next-all k l))
 
-        rounds-after : (after wiring_cube N w e).rounds ≡ (after wiring_cube n s e).rounds
+        rounds-after : (after Cube N w e).rounds ≡ (after Cube n s e).rounds
         unfolding after acted
         rounds-after = rw (over, b.rounds)
 
-        pub arrived : Alike (after wiring_cube n s e) (after wiring_cube N w e)
+        pub arrived : Alike (after Cube n s e) (after Cube N w e)
         arrived = record {
           like = like-after;
           next = next-after;
           rounds = rounds-after;
-          ok = accepted-kept wiring_cube n s e ok z;
-          Ok = accepted-kept wiring_cube N w e b.Ok taken;
+          ok = accepted-kept Cube n s e ok z;
+          Ok = accepted-kept Cube N w e b.Ok taken;
         }
 
       -- where the next board below n is tested, or none is
-      module _ (E : makes_test wiring_cube N u i ≡ true) (inside : station_at i (next_test wiring_cube N u i) < n) where
-        m-below : next_test wiring_cube N u i < distances n
+      module _ (E : makes_test Cube N u i ≡ true) (inside : station_at i (next_test Cube N u i) < n) where
+        m-below : next_test Cube N u i < distances n
         unfolding end_distance
-        m-below = omega (arith, levels, test_below wiring_cube N u i E)
+        m-below = omega (arith, levels, test_below Cube N u i E)
 
-        same_test : next_test wiring_cube n t i ≡ next_test wiring_cube N u i
+        same_test : next_test Cube n t i ≡ next_test Cube N u i
         unfolding end_distance wired_due
         same_test =
-            cube-next wiring_cube n t i refl
-            ∙ least-is (due (row n t i) i) (distances n - next_distance n t i) (next_distance n t i) (next_test wiring_cube N u i)
-            (omega (arith, b.from, next_test-low wiring_cube N u i)) (omega (arith, m-below, b.from, next_test-low wiring_cube N u i))
-            (sym (due-same n N L low absent t u b.like i li (next_test wiring_cube N u i) inside) ∙ test-due wiring_cube N u i E) undue-to
+            cube-next Cube n t i refl
+            ∙ least-is (due (row n t i) i) (distances n - next_distance n t i) (next_distance n t i) (next_test Cube N u i)
+            (omega (arith, b.from, next_test-low Cube N u i)) (omega (arith, m-below, b.from, next_test-low Cube N u i))
+            (sym (due-same n N L low absent t u b.like i li (next_test Cube N u i) inside) ∙ test-due Cube N u i E) undue-to
 
-        makes : makes_test wiring_cube n t i ≡ true
+        makes : makes_test Cube n t i ≡ true
         unfolding makes_test end_distance
-        makes = rw same_test (lt-ltb (next_test wiring_cube N u i) (distances n) m-below)
+        makes = rw same_test (lt-ltb (next_test Cube N u i) (distances n) m-below)
 
-        pub tested-alike : Alike (after wiring_cube n s e) (after wiring_cube N w e)
+        pub tested-alike : Alike (after Cube n s e) (after Cube N w e)
         tested-alike =
             arrived (both-test n N L low absent size Size levels company t u b.like i li going makes E (sym same_test))
             (test-next n N L low absent size Size levels company t u b.like i li going makes E (sym same_test))
 
-      module _ (E : makes_test wiring_cube N u i ≡ false) where
-        none : makes_test wiring_cube n t i ≡ false
+      module _ (E : makes_test Cube N u i ≡ false) where
+        none : makes_test Cube n t i ≡ false
         unfolding makes_test end_distance wired_due
         none =
             let q : ℕ = next_distance n t i in
-            let high : q ≤ distances n = (accepted-line wiring_cube n t ok i (below i li)).pass.next_high in
-            let High : next_distance N u i ≤ distances N = (accepted-line wiring_cube N u b.Ok i h).pass.next_high in
+            let high : q ≤ distances n = (accepted-line Cube n t ok i (below i li)).pass.next_high in
+            let High : next_distance N u i ≤ distances N = (accepted-line Cube N u b.Ok i h).pass.next_high in
             let none_left = least-none (due (row n t i) i) (distances n - q) q (λ y lo hi.
             by_cases (dec_lt y (next_distance N u i)) (λ g. b.undue y lo g)
-            (λ g. small-due y (none-due wiring_cube N u i E High y (omega arith) (omega (arith, levels))))) in
-            rw (cube-next wiring_cube n t i refl, none_left) (le-ltb (q + (distances n - q)) (distances n) (omega arith))
+            (λ g. small-due y (none-due Cube N u i E High y (omega arith) (omega (arith, levels))))) in
+            rw (cube-next Cube n t i refl, none_left) (le-ltb (q + (distances n - q)) (distances n) (omega arith))
 
-        pub finished-alike : Alike (after wiring_cube n s e) (after wiring_cube N w e)
+        pub finished-alike : Alike (after Cube n s e) (after Cube N w e)
         finished-alike =
             arrived (both-finish n N L low absent size Size levels company t u b.like i li going none E)
             (finish-next n N L low absent size Size levels company t u b.like i li going none E)
@@ -274,15 +275,15 @@ module _ (n N : ℕ) (L : ℕ → Bool) (low : n ≤ N) (absent : (k : ℕ) → 
     pub record Played (w : State) (room : ℕ) : Type 0 where
       pub turns : List ℕ
       pub end : State
-      pub goes : Goes wiring_cube N w turns end
-      pub alike : Alike (after wiring_cube n s e) end
+      pub goes : Goes Cube N w turns end
+      pub alike : Alike (after Cube n s e) end
       pub tests : end.tests ≤ w.tests + room
 
     last_turn : (w : State) (b : Ahead w) (fits : w.tests < tally_top) (room : ℕ) → 1 ≤ room
-        → Alike (after wiring_cube n s e) (after wiring_cube N w e) → Played w room
+        → Alike (after Cube n s e) (after Cube N w e) → Played w room
     last_turn w b fits room some alike = record {
       turns = i ∷ [];
-      end = after wiring_cube N w e;
+      end = after Cube N w e;
       goes = go i (taken w b fits) stop;
       alike = alike;
       tests = omega (arith, tests-after w b fits);
@@ -291,19 +292,19 @@ module _ (n N : ℕ) (L : ℕ → Bool) (low : n ≤ N) (absent : (k : ℕ) → 
     pub play : (fuel : ℕ) (w : State) → Ahead w → distances N ≤ next_distance N w.table i + fuel → w.tests + fuel < tally_top → Played w (suc fuel)
     unfolding end_distance
     play zero w b far fits =
-        by_bool (makes_test wiring_cube N w.table i)
-        (λ E. absurd (omega (arith, test_below wiring_cube N w.table i E, next_test-low wiring_cube N w.table i)))
+        by_bool (makes_test Cube N w.table i)
+        (λ E. absurd (omega (arith, test_below Cube N w.table i E, next_test-low Cube N w.table i)))
         (λ E. last_turn w b (omega arith) 1 (omega arith) (finished-alike w b (omega arith) E))
     play (suc fuel) w b far fits =
-        by_bool (makes_test wiring_cube N w.table i)
+        by_bool (makes_test Cube N w.table i)
         (λ E.
-        by_cases (dec_lt (station_at i (next_test wiring_cube N w.table i)) n)
+        by_cases (dec_lt (station_at i (next_test Cube N w.table i)) n)
         (λ inside. last_turn w b (omega arith) (suc (suc fuel)) (omega arith) (tested-alike w b (omega arith) E inside))
         (λ out.
         let grown = tests-after w b (omega arith) in
         let next = further-next w b (omega arith) E out in
         let rest =
-        play fuel (after wiring_cube N w e) (further w b (omega arith) E out) (omega (arith, next, next_test-low wiring_cube N w.table i))
+        play fuel (after Cube N w e) (further w b (omega arith) E out) (omega (arith, next, next_test-low Cube N w.table i))
         (omega (arith, grown)) in
         record {
           turns = i ∷ rest.turns;
@@ -318,10 +319,10 @@ module _ (n N : ℕ) (L : ℕ → Bool) (low : n ≤ N) (absent : (k : ℕ) → 
   pub record Follows (w : State) (end : State) : Type 0 where
     pub turns : List ℕ
     pub left : State
-    pub goes : Goes wiring_cube N w turns left
+    pub goes : Goes Cube N w turns left
     pub alike : Alike end left
 
-  pub follow : {s end : State} {is : List ℕ} → Goes wiring_cube n s is end → (w : State) → Alike s w → w.tests + 66 * length is < tally_top
+  pub follow : {s end : State} {is : List ℕ} → Goes Cube n s is end → (w : State) → Alike s w → w.tests + 66 * length is < tally_top
       → Follows w end
   follow {s} stop w a fits = record { turns = []; left = w; goes = stop; alike = a }
   follow {s} {end} (go {is = is} i z g) w a fits =

@@ -14,7 +14,6 @@ use Rattle.lists.proofs.BoolLaws.{by_bool}
 use Rattle.lists.proofs.SearchLaws.{both, every-at, every-all}
 use Rattle.lists.proofs.SumLaws.{sum_by, sum-stays}
 use Rattle.table.specs.Sizes.{is_size, dimension, distances}
-use Rattle.table.specs.Wiring.{wiring_cube}
 use Rattle.table.specs.Table.{head, stride, cell, status_column, next_column}
 use Rattle.table.specs.Table.{told_by_column, rounds_ago_column, status, status_told, next_distance, finished, told_by, told_by_none}
 use Rattle.table.specs.Table.{not_recorded, rounds_ago, suspects, live}
@@ -22,6 +21,7 @@ use Rattle.table.specs.Rules.{exit_rule}
 use Rattle.table.specs.Properties.{line_at_start, at_start, live_count, no_live_suspicion, none_suspected}
 use Rattle.table.proofs.Accepting.{Accepted, accepted}
 use Rattle.table.proofs.CellLaws.{Line, accepted-line}
+use Rattle.table.specs.declared.wiring.Wiring.TheVariants.{Cube}
 use Rattle.plant.specs.Entry.{State, state_of}
 use Rattle.plant.proofs.RunLaws.{accepted-number}
 use Rattle.detection.specs.Runs.{taken_all}
@@ -45,12 +45,12 @@ wider-exit n N i s told ago low h =
     (λ q. let b = both (ltb told n) (not (eqb told i)) (rw (e, f, q) at h) in rw (q, lt-ltb told N (omega (arith, ltb-true told n b.0)), b.1))))
     (λ f. rw (e, f) (rw (e, f) at h)))
 
-module _ (n N : ℕ) (p : Slow wiring_cube n) (Size : is_size N ≡ true) (low : n ≤ N) (levels : dimension n ≡ dimension N) where
+module _ (n N : ℕ) (p : Slow Cube n) (Size : is_size N ≡ true) (low : n ≤ N) (levels : dimension n ≡ dimension N) where
   abbrev t : List ℕ
   t = p.first.table
 
-  ok : Accepted wiring_cube n t
-  ok = accepted wiring_cube n t p.ok
+  ok : Accepted Cube n t
+  ok = accepted Cube n t p.ok
 
   abbrev L : ℕ → Bool
   L k = ltb k n && live n t k
@@ -92,33 +92,33 @@ module _ (n N : ℕ) (p : Slow wiring_cube n) (Size : is_size N ≡ true) (low :
   exits_of i h =
       rw (status-of i h, at i told_by_column h (omega arith), at i rounds_ago_column h (omega arith))
       (by_bool (ltb i n)
-      (λ q. rw q (wider-exit n N i (status n t i) (told_by n t i) (rounds_ago n t i) low (accepted-line wiring_cube n t ok i (ltb-true i n q)).exits))
+      (λ q. rw q (wider-exit n N i (status n t i) (told_by n t i) (rounds_ago n t i) low (accepted-line Cube n t ok i (ltb-true i n q)).exits))
       (λ q. rw q))
 
   live_of : (i : ℕ) → i < N → live N u i ≡ L i
   live_of i h =
       by_bool (ltb i n) (λ q. rw (q, status-of i h, q)) (λ q. rw (q, status-of i h, q))
 
-  line_of : (i : ℕ) → i < N → Line wiring_cube N u i
+  line_of : (i : ℕ) → i < N → Line Cube N u i
   line_of i h = record {
     status_range =
-        rw (status-of i h) (by_bool (ltb i n) (λ q. rw q (accepted-line wiring_cube n t ok i (ltb-true i n q)).status_range)
+        rw (status-of i h) (by_bool (ltb i n) (λ q. rw q (accepted-line Cube n t ok i (ltb-true i n q)).status_range)
         (λ q. rw q (omega arith)));
-    pass = begun-pass wiring_cube N u begun i h;
+    pass = begun-pass Cube N u begun i h;
     exits = exits_of i h;
-    own = row_of i i h h ∙ by_bool (ltb i n) (λ q. rw q (accepted-line wiring_cube n t ok i (ltb-true i n q)).own) (λ q. rw q);
+    own = row_of i i h h ∙ by_bool (ltb i n) (λ q. rw q (accepted-line Cube n t ok i (ltb-true i n q)).own) (λ q. rw q);
     range = λ y g. rw (row_of i y h g) (byte_small i y);
   }
     where
       byte_small : (i y : ℕ) → row_byte i y ≤ 1
       byte_small i y =
           by_bool (ltb i n)
-          (λ q. by_bool (ltb y n) (λ r. rw (q, r) ((accepted-line wiring_cube n t ok i (ltb-true i n q)).range y (ltb-true y n r)))
+          (λ q. by_bool (ltb y n) (λ r. rw (q, r) ((accepted-line Cube n t ok i (ltb-true i n q)).range y (ltb-true y n r)))
           (λ r. rw (q, r) (by_bool (live n t i) (λ l. rw l (omega arith)) (λ l. rw l (omega arith)))))
           (λ q. rw q (omega arith))
 
-  Ok : Accepted wiring_cube N u
-  Ok = begun-accepted wiring_cube N u begun refl Size line_of
+  Ok : Accepted Cube N u
+  Ok = begun-accepted Cube N u begun Size line_of
 
   -- the live boards
   parts : (k : ℕ) → L k ≡ true → (k < n) × (live n t k ≡ true)
@@ -145,15 +145,15 @@ module _ (n N : ℕ) (p : Slow wiring_cube n) (Size : is_size N ≡ true) (low :
   like : Like n N L low absent t u
   like = record {
     small = record {
-      lines = (ok.long, accepted-line wiring_cube n t ok);
+      lines = (ok.long, accepted-line Cube n t ok);
       lives = λ k h. rw (lt-ltb k n h);
-      accurate = λ i j h g a b. trusts wiring_cube n t ok p.premises.accurate i j h g (parts i a).1 (parts j b).1;
+      accurate = λ i j h g a b. trusts Cube n t ok p.premises.accurate i j h g (parts i a).1 (parts j b).1;
     };
     big = record {
       lines = (begun.long, line_of);
       lives = live_of;
       accurate = λ i j h g a b. row_below i j a (parts j b).0
-          ∙ trusts wiring_cube n t ok p.premises.accurate i j (parts i a).0 (parts j b).0 (parts i a).1 (parts j b).1;
+          ∙ trusts Cube n t ok p.premises.accurate i j (parts i a).0 (parts j b).0 (parts i a).1 (parts j b).1;
     };
     finish = λ k l. begun.finish k (omega (arith, (parts k l).0)) ∙ sym (at-start k (parts k l).0).1;
     rows = row_below;
@@ -177,13 +177,12 @@ module _ (n N : ℕ) (p : Slow wiring_cube n) (Size : is_size N ≡ true) (low :
   }
 
   -- what the claim describes
-  given : DetectionPremises wiring_cube N w []
+  given : DetectionPremises Cube N w []
   unfolding at_start live_count none_suspected all_taken taken_all
   given = record {
-    wiring = refl;
     size = Size;
     long = begun.long;
-    start = begun-start wiring_cube N u begun;
+    start = begun-start Cube N u begun;
     two_live = omega (arith, two, p.premises.two_live);
     accurate = every-all _ N (λ i h. every-all (no_live_suspicion N u i) N (λ j g. unsuspecting i j h g));
     one_wiring = refl;
@@ -203,13 +202,13 @@ module _ (n N : ℕ) (p : Slow wiring_cube n) (Size : is_size N ≡ true) (low :
           (λ a. rw (live_of i h, a))
 
   -- so the second plant is slow as well
-  pub greater : length p.turns ≤ 4096 → Slow wiring_cube N
+  pub greater : length p.turns ≤ 4096 → Slow Cube N
   greater few =
       let f = follow n N L low absent p.premises.size Size distances-same company p.goes w alike (omega arith) in
       let alive : L p.board ≡ true = rw (lt-ltb p.board n p.board_below) p.board_live in
       record {
         first = w;
-        ok = accepted-number wiring_cube N u Ok;
+        ok = accepted-number Cube N u Ok;
         premises = given;
         turns = f.turns;
         last = f.left;

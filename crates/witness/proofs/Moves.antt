@@ -14,9 +14,11 @@ use lib.Dec.{eqb}
 use Rattle.lists.proofs.BoolLaws.{by_bool}
 use Rattle.lists.proofs.SearchLaws.{both}
 use Rattle.table.specs.Sizes.{is_size, distances}
-use Rattle.table.specs.Wiring.{wiring_cube, end_distance}
+use Rattle.table.specs.Wiring.{end_distance}
 use Rattle.table.specs.Table.{head, table_length, finished_column, next_distance, finished, suspects, row}
 use Rattle.table.proofs.CellLaws.{row-length, row_at}
+use Rattle.table.specs.declared.wiring.Wiring.{Wiring}
+use Rattle.table.specs.declared.wiring.Wiring.TheVariants.{Cube}
 use Rattle.station.specs.Groups.{station_at}
 use Rattle.station.specs.Wired.{wired_station}
 use Rattle.station.specs.Tests.{unsuspected, due}
@@ -40,7 +42,7 @@ byte_after alive f i x k y =
     cond alive (cond ((eqb k i || eqb k x) && not (eqb y k)) (max (f i y) (f x y)) (f k y)) (cond (eqb k i && eqb y x) 1 (f k y))
 
 -- a turn, on any wiring, in a table in which no live board suspects a live one
-module _ (w n : ℕ) (L : ℕ → Bool) (t : List ℕ) (i : ℕ) (size : is_size n ≡ true) (p : Plain w n L t) (company : Company n L) (hi : i < n)
+module _ (w : Wiring) (n : ℕ) (L : ℕ → Bool) (t : List ℕ) (i : ℕ) (size : is_size n ≡ true) (p : Plain w n L t) (company : Company n L) (hi : i < n)
     (li : L i ≡ true) (going : finished n t i ≡ 0) where
   -- a turn that makes no test leaves the rows
   pub finish-bytes : makes_test w n t i ≡ false → (k y : ℕ) → y < n → suspects n (turn w n t kind_turn i) k y ≡ suspects n t k y
@@ -131,8 +133,8 @@ module _ (n N : ℕ) (L : ℕ → Bool) (low : n ≤ N) (absent : (k : ℕ) → 
 
   -- the live boards of u know what those of t know, and that the boards from n on are dead
   pub record Like (t u : List ℕ) : Type 0 where
-    pub small : Plain wiring_cube n L t
-    pub big : Plain wiring_cube N L u
+    pub small : Plain Cube n L t
+    pub big : Plain Cube N L u
     pub finish : (k : ℕ) → L k ≡ true → finished N u k ≡ finished n t k
     pub rows : (k y : ℕ) → L k ≡ true → y < n → suspects N u k y ≡ suspects n t k y
     pub known : (k y : ℕ) → L k ≡ true → n ≤ y → y < N → suspects N u k y ≡ 1
@@ -179,10 +181,10 @@ module _ (n N : ℕ) (L : ℕ → Bool) (low : n ≤ N) (absent : (k : ℕ) → 
 
     module _ (t u : List ℕ) (like : Like t u) (i : ℕ) (li : L i ≡ true) (going : finished n t i ≡ 0) where
       abbrev t' : List ℕ
-      t' = turn wiring_cube n t kind_turn i
+      t' = turn Cube n t kind_turn i
 
       abbrev u' : List ℕ
-      u' = turn wiring_cube N u kind_turn i
+      u' = turn Cube N u kind_turn i
 
       h : i < n
       h = live_below i li
@@ -193,31 +195,31 @@ module _ (n N : ℕ) (L : ℕ → Bool) (low : n ≤ N) (absent : (k : ℕ) → 
       Going : finished N u i ≡ 0
       Going = like.finish i li ∙ going
 
-      heads : Heads wiring_cube n t t' i (outcome_at wiring_cube n t kind_turn i (next_test wiring_cube n t i)) (makes_test wiring_cube n t i)
-      heads = turn-heads wiring_cube n t kind_turn i like.small.lines h
+      heads : Heads Cube n t t' i (outcome_at Cube n t kind_turn i (next_test Cube n t i)) (makes_test Cube n t i)
+      heads = turn-heads Cube n t kind_turn i like.small.lines h
 
-      pub Heads-of : Heads wiring_cube N u u' i (outcome_at wiring_cube N u kind_turn i (next_test wiring_cube N u i)) (makes_test wiring_cube N u i)
-      Heads-of = turn-heads wiring_cube N u kind_turn i like.big.lines H
+      pub Heads-of : Heads Cube N u u' i (outcome_at Cube N u kind_turn i (next_test Cube N u i)) (makes_test Cube N u i)
+      Heads-of = turn-heads Cube N u kind_turn i like.big.lines H
 
-      plain' : Plain wiring_cube n L t'
-      plain' = (turn-effect wiring_cube n L t kind_turn i like.small company h li going (λ _ _. refl)).plain
+      plain' : Plain Cube n L t'
+      plain' = (turn-effect Cube n L t kind_turn i like.small company h li going (λ _ _. refl)).plain
 
-      Plain' : Plain wiring_cube N L u'
-      Plain' = (turn-effect wiring_cube N L u kind_turn i like.big big-company H li Going (λ _ _. refl)).plain
+      Plain' : Plain Cube N L u'
+      Plain' = (turn-effect Cube N L u kind_turn i like.big big-company H li Going (λ _ _. refl)).plain
 
       -- a turn that tests a board from n on changes no row of a live board, and finishes no pass
-      module _ (e : makes_test wiring_cube N u i ≡ true) (out : ¬ (station_at i (next_test wiring_cube N u i) < n)) where
+      module _ (e : makes_test Cube N u i ≡ true) (out : ¬ (station_at i (next_test Cube N u i) < n)) where
         abbrev z : ℕ
-        z = station_at i (next_test wiring_cube N u i)
+        z = station_at i (next_test Cube N u i)
 
         z<N : z < N
         unfolding wired_station
-        z<N = test-station wiring_cube N u i e like.big.lines.0 H
+        z<N = test-station Cube N u i e like.big.lines.0 H
 
         kept : (k y : ℕ) → L k ≡ true → y < N → suspects N u' k y ≡ suspects N u k y
         unfolding wired_station
         kept k y l b =
-            test-bytes wiring_cube N L u i Size like.big big-company H li Going e k y (omega (arith, live_below k l)) b
+            test-bytes Cube N L u i Size like.big big-company H li Going e k y (omega (arith, live_below k l)) b
             ∙ rw (absent z (omega arith)) (by_bool (eqb k i && eqb y z) here (λ q. rw q))
           where
             here : (eqb k i && eqb y z) ≡ true → cond (eqb k i && eqb y z) 1 (suspects N u k y) ≡ suspects N u k y
@@ -241,7 +243,7 @@ module _ (n N : ℕ) (L : ℕ → Bool) (low : n ≤ N) (absent : (k : ℕ) → 
         }
 
       -- both finish their pass
-      module _ (e : makes_test wiring_cube n t i ≡ false) (E : makes_test wiring_cube N u i ≡ false) where
+      module _ (e : makes_test Cube n t i ≡ false) (E : makes_test Cube N u i ≡ false) where
         pub both-finish : Like t' u'
         both-finish = record {
           small = plain';
@@ -249,9 +251,9 @@ module _ (n N : ℕ) (L : ℕ → Bool) (low : n ≤ N) (absent : (k : ℕ) → 
           finish = λ k l. by_cases (ℕ_discrete k i) (λ q. rw q (rw E at Heads-of.finish ∙ sym (rw e at heads.finish)))
               (λ q. Heads-of.others k finished_column q (omega arith) ∙ (like.finish k l ∙ sym (heads.others k finished_column q (omega arith))));
           rows = λ k y l b.
-              finish-bytes wiring_cube N L u i Size like.big big-company H li Going E k y (omega arith)
-              ∙ (like.rows k y l b ∙ sym (finish-bytes wiring_cube n L t i size like.small company h li going e k y b));
-          known = λ k y l a b. finish-bytes wiring_cube N L u i Size like.big big-company H li Going E k y b ∙ like.known k y l a b;
+              finish-bytes Cube N L u i Size like.big big-company H li Going E k y (omega arith)
+              ∙ (like.rows k y l b ∙ sym (finish-bytes Cube n L t i size like.small company h li going e k y b));
+          known = λ k y l a b. finish-bytes Cube N L u i Size like.big big-company H li Going E k y b ∙ like.known k y l a b;
         }
 
         pub finish-next : next_distance N u' i ≡ next_distance n t' i
@@ -259,14 +261,14 @@ module _ (n N : ℕ) (L : ℕ → Bool) (low : n ≤ N) (absent : (k : ℕ) → 
         finish-next = rw E at Heads-of.next ∙ (sym levels ∙ sym (rw e at heads.next))
 
       -- both test the same board
-      module _ (e : makes_test wiring_cube n t i ≡ true) (E : makes_test wiring_cube N u i ≡ true)
-          (same : next_test wiring_cube N u i ≡ next_test wiring_cube n t i) where
+      module _ (e : makes_test Cube n t i ≡ true) (E : makes_test Cube N u i ≡ true)
+          (same : next_test Cube N u i ≡ next_test Cube n t i) where
         abbrev w : ℕ
-        w = station_at i (next_test wiring_cube n t i)
+        w = station_at i (next_test Cube n t i)
 
         Bytes : (k y : ℕ) → L k ≡ true → y < N → suspects N u' k y ≡ byte_after (L w) (suspects N u) i w k y
         unfolding wired_station
-        Bytes k y l b = rw same at (test-bytes wiring_cube N L u i Size like.big big-company H li Going E k y (omega (arith, live_below k l)) b)
+        Bytes k y l b = rw same at (test-bytes Cube N L u i Size like.big big-company H li Going E k y (omega (arith, live_below k l)) b)
 
         alike : (k y : ℕ) → L k ≡ true → y < n → byte_after (L w) (suspects N u) i w k y ≡ byte_after (L w) (suspects n t) i w k y
         alike k y l b =
@@ -288,7 +290,7 @@ module _ (n N : ℕ) (L : ℕ → Bool) (low : n ≤ N) (absent : (k : ℕ) → 
               (λ q. Heads-of.others k finished_column q (omega arith) ∙ (like.finish k l ∙ sym (heads.others k finished_column q (omega arith))));
           rows = λ k y l b.
               Bytes k y l (omega arith) ∙
-              (alike k y l b ∙ sym (test-bytes wiring_cube n L t i size like.small company h li going e k y (live_below k l) b));
+              (alike k y l b ∙ sym (test-bytes Cube n L t i size like.small company h li going e k y (live_below k l) b));
           known = λ k y l a b. Bytes k y l b ∙ stays k y l a b;
         }
 

@@ -11,11 +11,11 @@ use lib.ListN.{length}
 use Rattle.lists.proofs.BoolLaws.{by_bool}
 use Rattle.lists.proofs.SearchLaws.{both}
 use Rattle.table.specs.Sizes.{is_size, dimension}
-use Rattle.table.specs.Wiring.{wiring_cube}
 use Rattle.table.specs.Table.{head, table_length, set_cell, suspects, live, rounds_ago_column}
-use Rattle.table.specs.Rules.{not_live, numbered_table_refusal}
+use Rattle.table.specs.Rules.{not_live, table_refusal}
 use Rattle.table.specs.Properties.{at_start, live_count, none_suspected}
 use Rattle.table.specs.Fresh.{fresh_table}
+use Rattle.table.specs.declared.wiring.Wiring.TheVariants.{Cube}
 use Rattle.plant.specs.Turn.{crash, kind_turn}
 use Rattle.plant.specs.Entry.{State, state_of, entry_of, entry_refusal, after}
 use Rattle.detection.specs.Runs.{taken_all}
@@ -35,12 +35,12 @@ first_state n dead = state_of (crashed n (fresh_table n) dead 0) 0 0
 -- all turns are taken, and the state that they leave passes q
 unfoldable pub arrives : ℕ → State → List ℕ → (State → Bool) → Bool
 arrives n s [] q = q s
-arrives n s (i ∷ is) q = cond (eqb (entry_refusal n s (entry_of kind_turn i)) 0) (arrives n (after wiring_cube n s (entry_of kind_turn i)) is q) false
+arrives n s (i ∷ is) q = cond (eqb (entry_refusal n s (entry_of kind_turn i)) 0) (arrives n (after Cube n s (entry_of kind_turn i)) is q) false
 
 -- what they leave
 pub record Arrival (n : ℕ) (s : State) (is : List ℕ) (q : State → Bool) : Type 0 where
   pub left : State
-  pub goes : Goes wiring_cube n s is left
+  pub goes : Goes Cube n s is left
   pub passes : q left ≡ true
 
 pub arrival : (n : ℕ) (s : State) (is : List ℕ) (q : State → Bool) → arrives n s is q ≡ true → Arrival n s is q
@@ -49,7 +49,7 @@ arrival n s [] q e = record { left = s; goes = stop; passes = e }
 arrival n s (i ∷ is) q e =
     by_bool (eqb (entry_refusal n s (entry_of kind_turn i)) 0)
     (λ z.
-    let rest = arrival n (after wiring_cube n s (entry_of kind_turn i)) is q (rw z at e) in
+    let rest = arrival n (after Cube n s (entry_of kind_turn i)) is q (rw z at e) in
     record { left = rest.left; goes = go i (eqb-true _ 0 z) rest.goes; passes = rest.passes })
     (λ z. cc (rw z at e))
 
@@ -57,7 +57,7 @@ arrival n s (i ∷ is) q e =
 abbrev described : ℕ → State → Bool
 described n s =
     is_size n && eqb (length s.table) (table_length n) && at_start n s.table && ltb 1 (live_count n s.table) && none_suspected n s.table
-    && eqb (numbered_table_refusal wiring_cube n s.table) 0
+    && eqb (table_refusal Cube n s.table) 0
 
 -- board i is live and board j is not
 abbrev apart : ℕ → State → ℕ → ℕ → Bool
@@ -72,7 +72,7 @@ unseen n i j end = eqb (suc end.rounds) (worst_latency (dimension n)) && eqb (su
 
 -- a slow plant with a list of turns that fits a schedule
 abbrev pub Computed : ℕ → Type 0
-Computed n = (p : Slow wiring_cube n) × (length p.turns ≤ 4096)
+Computed n = (p : Slow Cube n) × (length p.turns ≤ 4096)
 
 -- such a plant is slow
 pub slow-plant : (n : ℕ) (dead : List ℕ) (i j : ℕ) → begins n dead i j ≡ true → (turns : List ℕ) → leb (length turns) 4096 ≡ true
@@ -94,7 +94,6 @@ slow-plant n dead i j begun turns few a =
         first = s;
         ok = eqb-true _ 0 checks.1;
         premises = record {
-          wiring = refl;
           size = sized.0;
           long = eqb-true _ _ sized.1;
           start = starts.1;
@@ -155,11 +154,11 @@ states-same a b e =
     λ k. state_of (table k) (rounds k) (tests k)
 
 -- turns from one state to another
-pub part : (n : ℕ) (s : State) (is : List ℕ) (s' : State) → arrives n s is (same_state s') ≡ true → Goes wiring_cube n s is s'
+pub part : (n : ℕ) (s : State) (is : List ℕ) (s' : State) → arrives n s is (same_state s') ≡ true → Goes Cube n s is s'
 part n s is s' e =
     let a = arrival n s is (same_state s') e in
-    subst (Goes wiring_cube n s is) (sym (states-same s' a.left a.passes)) a.goes
+    subst (Goes Cube n s is) (sym (states-same s' a.left a.passes)) a.goes
 
 -- an arrival behind some turns
-pub behind : (n : ℕ) (s s' : State) (is js : List ℕ) (q : State → Bool) → Goes wiring_cube n s is s' → Arrival n s' js q → Arrival n s (is ++ js) q
+pub behind : (n : ℕ) (s s' : State) (is js : List ℕ) (q : State → Bool) → Goes Cube n s is s' → Arrival n s' js q → Arrival n s (is ++ js) q
 behind n s s' is js q g a = record { left = a.left; goes = goes-append g a.goes; passes = a.passes }

@@ -13,10 +13,10 @@ use Rattle.lists.proofs.BoolLaws.{by_bool, choice}
 use Rattle.lists.proofs.SearchLaws.{every-not, every-all}
 use Rattle.lists.specs.Search.{every}
 use Rattle.table.specs.Sizes.{is_size}
-use Rattle.table.specs.Wiring.{wiring_ring}
 use Rattle.table.specs.Table.{head, next_column, finished_column, next_distance, finished, tests_made, suspects, live}
 use Rattle.table.specs.Rules.{not_live, some_live, finished_if_live, live_finished, round_over}
 use Rattle.table.proofs.WiringLaws.{end_ring}
+use Rattle.table.specs.declared.wiring.Wiring.TheVariants.{Ring}
 use Rattle.station.specs.Wired.{wired_station}
 use Rattle.station.proofs.WiredLaws.{ring-station}
 use Rattle.plant.specs.Turn.{kind_turn, next_test, makes_test, outcome_at, turn}
@@ -46,7 +46,7 @@ not_zero k l = omega (arith, eqb-false k 0 (not-true (eqb k 0) l))
 pub record Reached (n : ℕ) (P : State → Type 0) (s : State) : Type 0 where
   pub turns : List ℕ
   pub end : State
-  pub goes : Goes wiring_ring n s turns end
+  pub goes : Goes Ring n s turns end
   pub holds : P end
 
 pub here : (n : ℕ) (P : State → Type 0) (s : State) → P s → Reached n P s
@@ -60,7 +60,7 @@ onward n P Q s a next =
 -- live boards by their numbers k, from 1 to n − 1, within a round: whether they have finished, 0 or 1, and their next distances; those that do not
 -- suspect board 0; so many closed rounds, and at most so many tests
 pub record During (n : ℕ) (finish next : ℕ → ℕ) (unaware : ℕ → Type 0) (rounds tests : ℕ) (s : State) : Type 0 where
-  pub plain : Plain wiring_ring n others s.table
+  pub plain : Plain Ring n others s.table
   pub finishes : (k : ℕ) → 0 < k → k < n → finished n s.table k ≡ finish k
   pub nexts : (k : ℕ) → 0 < k → k < n → finish k ≡ 0 → next_distance n s.table k ≡ next k
   pub unseen : (k : ℕ) → 0 < k → k < n → unaware k → suspects n s.table k 0 ≡ 0
@@ -105,10 +105,10 @@ module _ (n : ℕ) (size : is_size n ≡ true) (three : 3 ≤ n) where
     e = entry_of kind_turn i
 
     abbrev t' : List ℕ
-    t' = turn wiring_ring n t kind_turn i
+    t' = turn Ring n t kind_turn i
 
     abbrev o : ℕ
-    o = outcome_at wiring_ring n t kind_turn i (next_test wiring_ring n t i)
+    o = outcome_at Ring n t kind_turn i (next_test Ring n t i)
 
     li : others i ≡ true
     li = alive i pos
@@ -126,31 +126,31 @@ module _ (n : ℕ) (size : is_size n ≡ true) (three : 3 ≤ n) where
         rw (ne_eqb s.rounds tally_top (λ x. omega (arith, d.closed)), ne_eqb s.tests tally_top (λ x. omega (arith, d.count))) in
         rw (full, lt-ltb i n hi, d.plain.lives i hi ∙ li, going)
 
-    heads : Heads wiring_ring n t t' i o (makes_test wiring_ring n t i)
-    heads = turn-heads wiring_ring n t kind_turn i d.plain.lines hi
+    heads : Heads Ring n t t' i o (makes_test Ring n t i)
+    heads = turn-heads Ring n t kind_turn i d.plain.lines hi
 
-    kept : TurnKept wiring_ring n others t t' i o
-    kept = turn-effect wiring_ring n others t kind_turn i d.plain company hi li going (λ _ _. refl)
+    kept : TurnKept Ring n others t t' i o
+    kept = turn-effect Ring n others t kind_turn i d.plain company hi li going (λ _ _. refl)
 
     turned : RingTurn n others (Row n t) (Row n t') (next_distance n t) (next_distance n t') (tests_made n t) (tests_made n t') i
-    turned = ring-turns wiring_ring n others t t' i o refl kept heads
+    turned = ring-turns Ring n others t t' i o refl kept heads
 
-    tests-after : (after wiring_ring n s e).tests ≤ suc s.tests
+    tests-after : (after Ring n s e).tests ≤ suc s.tests
     unfolding after
-    tests-after = by_bool (is_test wiring_ring n t e) (λ x. rw x (omega arith)) (λ x. rw x (omega arith))
+    tests-after = by_bool (is_test Ring n t e) (λ x. rw x (omega arith)) (λ x. rw x (omega arith))
 
     -- where the turn leaves a live board that has not finished
     module _ (z : ℕ) (hz : 0 < z) (lz : z < n) (waits : finished n t' z ≡ 0) where
       open-still : round_over n t' ≡ false
       open-still =
           by_bool (round_over n t')
-          (λ x. absurd (omega (arith, waits, all-finished wiring_ring n others t' kept.plain x z lz (alive z hz)))) (λ x. x)
+          (λ x. absurd (omega (arith, waits, all-finished Ring n others t' kept.plain x z lz (alive z hz)))) (λ x. x)
 
-      left-table : (after wiring_ring n s e).table ≡ t'
+      left-table : (after Ring n s e).table ≡ t'
       unfolding after after_round acted
       left-table = rw open-still
 
-      left-rounds : (after wiring_ring n s e).rounds ≡ s.rounds
+      left-rounds : (after Ring n s e).rounds ≡ s.rounds
       unfolding after acted
       left-rounds = rw open-still
 
@@ -161,7 +161,7 @@ module _ (n : ℕ) (size : is_size n ≡ true) (three : 3 ≤ n) where
       left f' q' U' same own-finish own-next unseen =
           record {
             turns = i ∷ [];
-            end = after wiring_ring n s e;
+            end = after Ring n s e;
             goes = go i taken stop;
             holds =
                 record {
@@ -181,20 +181,20 @@ module _ (n : ℕ) (size : is_size n ≡ true) (three : 3 ≤ n) where
       below' : next_distance n t i < n
       below' = omega (arith, at-next)
 
-      makes : makes_test wiring_ring n t i ≡ true
+      makes : makes_test Ring n t i ≡ true
       unfolding makes_test
-      makes = rw (ring-next wiring_ring n t i refl, end_ring wiring_ring n refl) (lt-ltb (next_distance n t i) n below')
+      makes = rw (ring-next Ring n t i refl, end_ring Ring n refl) (lt-ltb (next_distance n t i) n below')
 
       place : (i + next_distance n t i) % n ≡ x
       place = ap (λ (m : ℕ). (i + m) % n) at-next ∙ there
 
-      station : wired_station wiring_ring n i (next_test wiring_ring n t i) ≡ x
+      station : wired_station Ring n i (next_test Ring n t i) ≡ x
       station =
-          ring-station wiring_ring n i (next_test wiring_ring n t i) refl
-          ∙ (ap (λ (m : ℕ). (i + m) % n) (ring-next wiring_ring n t i refl) ∙ place)
+          ring-station Ring n i (next_test Ring n t i) refl
+          ∙ (ap (λ (m : ℕ). (i + m) % n) (ring-next Ring n t i refl) ∙ place)
 
       bytes : (k : ℕ) → k < n → suspects n t' k 0 ≡ byte_after (others x) (suspects n t) i x k 0
-      bytes k h = rw station at (test-bytes wiring_ring n others t i size d.plain company hi li going makes k 0 h (omega arith))
+      bytes k h = rw station at (test-bytes Ring n others t i size d.plain company hi li going makes k 0 h (omega arith))
 
       stays : finished n t' i ≡ 0
       stays = (rw makes at heads.finish) ∙ going
@@ -235,15 +235,15 @@ module _ (n : ℕ) (size : is_size n ≡ true) (three : 3 ≤ n) where
 
     -- it finishes its pass
     module _ (far : q i ≡ n) where
-      none : makes_test wiring_ring n t i ≡ false
+      none : makes_test Ring n t i ≡ false
       unfolding makes_test
-      none = rw (ring-next wiring_ring n t i refl, end_ring wiring_ring n refl) (le-ltb (next_distance n t i) n (omega (arith, at-next)))
+      none = rw (ring-next Ring n t i refl, end_ring Ring n refl) (le-ltb (next_distance n t i) n (omega (arith, at-next)))
 
       ended : finished n t' i ≡ 1
       ended = rw none at heads.finish
 
       rows : (k : ℕ) → suspects n t' k 0 ≡ suspects n t k 0
-      rows k = finish-bytes wiring_ring n others t i size d.plain company hi li going none k 0 (omega arith)
+      rows k = finish-bytes Ring n others t i size d.plain company hi li going none k 0 (omega arith)
 
       -- while another one has not
       pub ends : (f' q' : ℕ → ℕ) (z : ℕ) → 0 < z → z < n → z ≢ i → f z ≡ 0 → ((k : ℕ) → k ≢ i → (f' k ≡ f k) × (q' k ≡ q k)) → f' i ≡ 1
@@ -262,22 +262,22 @@ module _ (n : ℕ) (size : is_size n ≡ true) (three : 3 ≤ n) where
             let some : 0 < k = not_zero k (sym (kept.plain.lives k h) ∙ l) in
             heads.others k finished_column y (omega arith) ∙ (d.finishes k some h ∙ last k some h y)))
 
-        table-after : (after wiring_ring n s e).table ≡ reset_lines n t'
+        table-after : (after Ring n s e).table ≡ reset_lines n t'
         unfolding after after_round acted
         table-after = rw over
 
-        rounds-after : (after wiring_ring n s e).rounds ≡ s.rounds + 1
+        rounds-after : (after Ring n s e).rounds ≡ s.rounds + 1
         unfolding after acted
         rounds-after = rw over
 
         pub closes : Reached n (During n (λ k. 0) (λ k. 1) U (suc r) (suc c)) s
         closes = record {
           turns = i ∷ [];
-          end = after wiring_ring n s e;
+          end = after Ring n s e;
           goes = go i taken stop;
           holds =
               record {
-                plain = rw table-after (reset-rows wiring_ring n others t' kept.plain).0;
+                plain = rw table-after (reset-rows Ring n others t' kept.plain).0;
                 finishes = λ k a b. rw table-after (reset-cells n t' kept.plain.lines.0 k b).unfinished;
                 nexts = λ k a b g. rw table-after (reset-cells n t' kept.plain.lines.0 k b).next;
                 unseen = λ k a b u. rw table-after (reset-other n t' k (head + 0) (omega arith) (λ p. omega arith) ∙ (rows k ∙ d.unseen k a b u));

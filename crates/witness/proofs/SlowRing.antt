@@ -15,7 +15,6 @@ use Rattle.lists.proofs.BoolLaws.{by_bool}
 use Rattle.lists.proofs.SearchLaws.{every-all}
 use Rattle.lists.proofs.SumLaws.{sum_by, sum-not, sum-single}
 use Rattle.table.specs.Sizes.{is_size}
-use Rattle.table.specs.Wiring.{wiring_ring}
 use Rattle.table.specs.Table.{head, stride, cell, status_column, next_column, told_by_column}
 use Rattle.table.specs.Table.{told_by_none, rounds_ago_column, status, suspects, live}
 use Rattle.table.specs.Rules.{exit_rule, not_live}
@@ -23,6 +22,7 @@ use Rattle.table.specs.Properties.{at_start, live_count, no_live_suspicion, none
 use Rattle.table.proofs.Accepting.{Accepted}
 use Rattle.table.proofs.CellLaws.{Line}
 use Rattle.table.proofs.SizeLaws.{size-bounds}
+use Rattle.table.specs.declared.wiring.Wiring.TheVariants.{Ring}
 use Rattle.station.proofs.WiredLaws.{place_behind}
 use Rattle.plant.specs.Entry.{State, state_of}
 use Rattle.plant.proofs.RunLaws.{accepted-number}
@@ -224,28 +224,27 @@ module _ (n : ℕ) (size : is_size n ≡ true) (three : 3 ≤ n) where
   exits_of i h =
       rw (status-of i h, at i told_by_column h (omega arith), at i rounds_ago_column h (omega arith)) (by_bool (eqb i 0) (λ e. rw e) (λ e. rw e))
 
-  line_of : (i : ℕ) → i < n → Line wiring_ring n t i
+  line_of : (i : ℕ) → i < n → Line Ring n t i
   line_of i h = record {
     status_range = rw (status-of i h) (by_bool (eqb i 0) (λ e. rw e (omega arith)) (λ e. rw e (omega arith)));
-    pass = begun-pass wiring_ring n t begun i h;
+    pass = begun-pass Ring n t begun i h;
     exits = exits_of i h;
     own = row_of i i h h;
     range = λ y g. omega (arith, row_of i y h g);
   }
 
-  ok : Accepted wiring_ring n t
-  ok = begun-accepted wiring_ring n t begun refl size line_of
+  ok : Accepted Ring n t
+  ok = begun-accepted Ring n t begun size line_of
 
   abbrev first : State
   first = state_of t 0 0
 
-  given : DetectionPremises wiring_ring n first []
+  given : DetectionPremises Ring n first []
   unfolding at_start live_count none_suspected all_taken taken_all
   given = record {
-    wiring = refl;
     size = size;
     long = begun.long;
-    start = begun-start wiring_ring n t begun;
+    start = begun-start Ring n t begun;
     two_live = omega (arith, all, sum-not (λ k. eqb k 0) n, zero-only);
     accurate = every-all _ n (λ i h. every-all (no_live_suspicion n t i) n (λ j g. rw (row_of i j h g) (unsuspecting i j)));
     one_wiring = refl;
@@ -280,12 +279,12 @@ module _ (n : ℕ) (size : is_size n ≡ true) (three : 3 ≤ n) where
       let e : 200 * r + 200 ≡ 200 * suc r = omega arith in
       rw e at (round r h (200 * r) (omega (arith, small)) u d))
 
-  slow : Slow wiring_ring n
+  slow : Slow Ring n
   slow =
       let a = rounds (m - 1) (omega arith) in
       record {
         first = first;
-        ok = accepted-number wiring_ring n t ok;
+        ok = accepted-number Ring n t ok;
         premises = given;
         turns = a.turns;
         last = a.end;
@@ -300,5 +299,5 @@ module _ (n : ℕ) (size : is_size n ≡ true) (three : 3 ≤ n) where
         unseen = a.holds.unseen m (omega arith) (omega arith) (omega arith, omega arith);
       }
 
-  pub ring-reached : WorstCaseAt wiring_ring n
-  ring-reached = slow-worst-case wiring_ring n slow
+  pub ring-reached : WorstCaseAt Ring n
+  ring-reached = slow-worst-case Ring n slow

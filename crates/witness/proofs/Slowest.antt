@@ -6,11 +6,11 @@ use mathlib.Core.List.{List, [], ◌∷◌, ◌++◌}
 use Prim.Native.Nat.{ℕ, zero, suc, ◌^◌, ◌≤◌, ◌<◌}
 use native.Mathlib.Omega.{arith}
 use Rattle.table.specs.Sizes.{is_size, dimension}
-use Rattle.table.specs.Wiring.{wiring_cube}
 use Rattle.table.proofs.SizeLaws.{size-log, size-dimension}
 use Rattle.detection.specs.Claim.{worst_latency}
 use Rattle.plant.specs.Entry.{State, state_of}
 use Rattle.table.specs.Fresh.{fresh_table}
+use Rattle.table.specs.declared.wiring.Wiring.TheVariants.{Cube}
 use Rattle.witness.proofs.Computing.{whole_list}
 use Rattle.witness.specs.WorstCase.{WorstCaseAt}
 use Rattle.witness.proofs.Slow.{Goes, goes-append, slow-worst-case}
@@ -139,27 +139,27 @@ abbrev turns-6 : List ℕ
 turns-6 = (21 ∷ 21 ∷ 21 ∷ 22 ∷ 20 ∷ 21 ∷ 21 ∷ 21 ∷ 21 ∷ 23 ∷ 21 ∷ 21 ∷ 23 ∷ 21 ∷ 23 ∷ 22 ∷ 22 ∷ 23 ∷ 23 ∷ 23 ∷ 20 ∷ 20 ∷ 23 ∷ 20 ∷
     23 ∷ 23 ∷ 20 ∷ 23 ∷ 20 ∷ 22 ∷ 20 ∷ 22 ∷ 22 ∷ 20 ∷ 20 ∷ 20 ∷ 20 ∷ 22 ∷ 22 ∷ 22 ∷ 22 ∷ [])
 
-round-0 : Goes wiring_cube 33 (first_state 33 dead-33) turns-0 (state-33 known-1 1 20)
+round-0 : Goes Cube 33 (first_state 33 dead-33) turns-0 (state-33 known-1 1 20)
 unfolding computes
 round-0 = part 33 (first_state 33 dead-33) turns-0 (state-33 known-1 1 20) refl
 
-round-1 : Goes wiring_cube 33 (state-33 known-1 1 20) turns-1 (state-33 known-2 2 46)
+round-1 : Goes Cube 33 (state-33 known-1 1 20) turns-1 (state-33 known-2 2 46)
 unfolding computes
 round-1 = part 33 (state-33 known-1 1 20) turns-1 (state-33 known-2 2 46) refl
 
-round-2 : Goes wiring_cube 33 (state-33 known-2 2 46) turns-2 (state-33 known-3 3 76)
+round-2 : Goes Cube 33 (state-33 known-2 2 46) turns-2 (state-33 known-3 3 76)
 unfolding computes
 round-2 = part 33 (state-33 known-2 2 46) turns-2 (state-33 known-3 3 76) refl
 
-round-3 : Goes wiring_cube 33 (state-33 known-3 3 76) turns-3 (state-33 known-4 4 110)
+round-3 : Goes Cube 33 (state-33 known-3 3 76) turns-3 (state-33 known-4 4 110)
 unfolding computes
 round-3 = part 33 (state-33 known-3 3 76) turns-3 (state-33 known-4 4 110) refl
 
-round-4 : Goes wiring_cube 33 (state-33 known-4 4 110) turns-4 (state-33 known-5 5 146)
+round-4 : Goes Cube 33 (state-33 known-4 4 110) turns-4 (state-33 known-5 5 146)
 unfolding computes
 round-4 = part 33 (state-33 known-4 4 110) turns-4 (state-33 known-5 5 146) refl
 
-round-5 : Goes wiring_cube 33 (state-33 known-5 5 146) turns-5 (state-33 known-6 6 182)
+round-5 : Goes Cube 33 (state-33 known-5 5 146) turns-5 (state-33 known-6 6 182)
 unfolding computes
 round-5 = part 33 (state-33 known-5 5 146) turns-5 (state-33 known-6 6 182) refl
 
@@ -182,15 +182,15 @@ slow-33 =
     (goes-append round-0 (goes-append round-1 (goes-append round-2 (goes-append round-3 (goes-append round-4 (round-5)))))) last-round)
 
 -- a size with as many levels as a computed one
-from-computed : (b n : ℕ) → Computed b → is_size n ≡ true → b ≤ n → dimension b ≡ dimension n → WorstCaseAt wiring_cube n
-from-computed b n c size low levels = slow-worst-case wiring_cube n (greater b n c.0 size low levels c.1)
+from-computed : (b n : ℕ) → Computed b → is_size n ≡ true → b ≤ n → dimension b ≡ dimension n → WorstCaseAt Cube n
+from-computed b n c size low levels = slow-worst-case Cube n (greater b n c.0 size low levels c.1)
 
 -- with as many levels as one of these, from 3 boards on
-pub cube-reached : (n : ℕ) → is_size n ≡ true → 3 ≤ n → WorstCaseAt wiring_cube n
+pub cube-reached : (n : ℕ) → is_size n ≡ true → 3 ≤ n → WorstCaseAt Cube n
 unfolding whole_list
 cube-reached n size three = go (size-log n size)
   where
-    go : (h : ℕ) × (dimension n ≡ suc h) × (2 ^ h < n) × (n ≤ 2 ^ suc h) → WorstCaseAt wiring_cube n
+    go : (h : ℕ) × (dimension n ≡ suc h) × (2 ^ h < n) × (n ≤ 2 ^ suc h) → WorstCaseAt Cube n
     go (zero, d, low, high) = absurd (omega arith)
     go (suc zero, d, low, high) = from-computed 3 n slow-3 size (omega arith) (sym d)
     go (suc (suc zero), d, low, high) = from-computed 5 n slow-5 size (omega arith) (sym d)

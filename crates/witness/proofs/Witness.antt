@@ -6,11 +6,10 @@ use mathlib.Core.List.{List}
 use Prim.Native.Nat.{ℕ, ◌≤◌}
 use native.Mathlib.Omega.{arith}
 use lib.ListN.{length}
-use Rattle.std.specs.Prelude.{Ok}
 use Rattle.table.specs.Sizes.{is_size}
-use Rattle.table.specs.Wiring.{wiring_check}
 use Rattle.table.specs.Table.{table_length}
 use Rattle.table.specs.Properties.{at_start, live_count, none_suspected}
+use Rattle.table.specs.declared.wiring.Wiring.{Wiring}
 use Rattle.plant.specs.Entry.{State}
 use Rattle.detection.specs.Runs.{Call, taken_all, crashes, is_late, is_on}
 use Rattle.detection.specs.Rounds.{all_taken}
@@ -19,12 +18,11 @@ use Rattle.witness.specs.Witness.{turns_of, boards, calls, FourBoards, ThreeBoar
 use Rattle.witness.proofs.Computing.{whole_list}
 
 -- the detection conditions, each computed
-met : {w n : ℕ} {s : State} {calls : List Call} → wiring_check w ≡ Ok tt → is_size n ≡ true → length s.table ≡ table_length n
+met : {w : Wiring} {n : ℕ} {s : State} {calls : List Call} → is_size n ≡ true → length s.table ≡ table_length n
     → at_start n s.table ≡ true → 2 ≤ live_count n s.table → none_suspected n s.table ≡ true → all_taken (is_on w) (taken_all s calls) ≡ true
     → all_taken (λ x. not (crashes x)) (taken_all s calls) ≡ true → all_taken (λ x. not (is_late x)) (taken_all s calls) ≡ true
     → DetectionPremises w n s calls
-met wiring size long start two accurate one none never = record {
-  wiring = wiring;
+met size long start two accurate one none never = record {
   size = size;
   long = long;
   start = start;
@@ -39,7 +37,7 @@ met wiring size long start two accurate one none never = record {
 pub witness : FourBoards
 unfolding whole_list boards turns_of calls
 witness = record {
-  premises = met refl refl refl refl (omega arith) refl refl refl refl;
+  premises = met refl refl refl (omega arith) refl refl refl refl;
   closed_tests = refl;
   open_tests = refl;
   counted = refl;
@@ -49,7 +47,7 @@ witness = record {
 pub witness-3 : ThreeBoards
 unfolding whole_list turns_of
 witness-3 = record {
-  premises = met refl refl refl refl (omega arith) refl refl refl refl;
+  premises = met refl refl refl (omega arith) refl refl refl refl;
   closed_tests = refl;
   open_tests = refl;
   counted = refl;
@@ -59,7 +57,7 @@ witness-3 = record {
 pub witness-ring : FourOnRing
 unfolding whole_list ring_boards turns_of ring_calls
 witness-ring = record {
-  premises = met refl refl refl refl (omega arith) refl refl refl refl;
+  premises = met refl refl refl (omega arith) refl refl refl refl;
   closed_tests = refl;
   open_tests = refl;
   counted = refl;

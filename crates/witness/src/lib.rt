@@ -16,7 +16,7 @@ pub fn examples()
 {}
 
 // Worst case (specs/WorstCase.antt).
-pub fn worst_case()
+pub fn worst_case_is_reached()
     // On each wiring with 3 boards or more, no number of rounds below the worst-case latency is enough.
     ensures { WorstCaseIsReached }
 {}

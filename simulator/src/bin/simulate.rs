@@ -13,8 +13,7 @@ fn main() -> io::Result<()> {
         true => Wiring::Ring,
         false => Wiring::Cube,
     };
-    let text = simulator::program::respond(wiring, &input);
-    io::stdout().lock().write_all(text.as_bytes())?;
-    let said = simulator::program::said(wiring, &input);
-    io::stderr().lock().write_all(said.as_bytes())
+    let response = simulator::program::respond(wiring, &input);
+    io::stdout().lock().write_all(response.out.as_bytes())?;
+    io::stderr().lock().write_all(response.err.as_bytes())
 }

@@ -2,6 +2,7 @@
 //! tables of the papers.
 
 use crate::plant::{Plant, CUBE, RING};
+use simulator::program::saved_after_run;
 use simulator::{assignment, check_table, drive, fresh_table, group_list};
 
 /// The group of a station: the only length of a list that is accepted.
@@ -160,4 +161,20 @@ fn messages_without_failures() {
     let column = |wiring| [2, 3, 4, 5, 6].map(|d| messages(wiring, d));
     assert_eq!(column(RING), [32, 144, 512, 1_600, 4_608]);
     assert_eq!(column(CUBE), [64, 432, 2_048, 8_000, 27_648]);
+}
+
+/// The sample of edition 2 is what the run of the sample's input saves. Nothing is saved
+/// where that is refused or cannot be read.
+#[test]
+fn saved_samples() {
+    let input = include_bytes!("../../../samples/eight-boards-4-out.txt");
+    let saved = include_bytes!("../../../samples/eight-boards-4-out.saved");
+    assert_eq!(saved_after_run(input), Ok(saved.to_vec()));
+    for (input, line) in [
+        (&b"2\nT 2\n"[..], "rounds 0 tests 0 refused 9 at 0\n"),
+        (b"65\n", "rounds 0 tests 0 refused 1 at 0\n"),
+        (b"2\nX\n", "unread 2\n"),
+    ] {
+        assert_eq!(saved_after_run(input), Err(String::from(line)));
+    }
 }

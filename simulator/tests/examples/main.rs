@@ -4,13 +4,11 @@
 //!
 //! - `documents`, `requests`, `rules`: the examples of the owner's documents, of the papers and of
 //!   docs/RULES.md. Where a rule was misread by both implementations, only these tell.
-//! - `programs`: arguments, exit status and samples of the simulator's own commands,
-//!   which nothing else starts.
+//! - in `documents` also what `simulate_saved` makes of the samples, which nothing else compares.
 //! - `law`: what follows from the rules but is proved nowhere.
 
 mod documents;
 mod law;
 mod plant;
-mod programs;
 mod requests;
 mod rules;

@@ -1,4 +1,4 @@
--- Each claim is a law of the file that it is taken from.
+-- The claims, each a law of proofs/.
 use Rattle.accuracy.proofs.Claims.{runs-accurate, mixed-accurate, drives-tell-nobody}
 use Rattle.accuracy.proofs.accuracy.Goals as goal
 

@@ -1,4 +1,4 @@
--- Each claim is a law of the file that it is taken from.
+-- The claims, each a law of proofs/.
 use Rattle.dead_lines.proofs.RunAlike.{run-of-alike, runs-of-alike}
 use Rattle.dead_lines.proofs.DriveAlike.{grant-of-alike, drive-of-alike, mixed-of-alike}
 use Rattle.dead_lines.proofs.alike.Goals as goal

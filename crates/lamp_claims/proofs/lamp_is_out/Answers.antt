@@ -1,4 +1,4 @@
--- Each claim is a law of the file that it is taken from.
+-- The claims, each a law of proofs/.
 use Rattle.lamp_claims.proofs.StaysOutLaws.{out-meets-premises, out-begins-wait, stays-out, mixed-stays-out}
 use Rattle.detection.specs.Claim.{worst_rounds}
 use Rattle.detection.proofs.DetectionClaim.{detection-in-worst-case}

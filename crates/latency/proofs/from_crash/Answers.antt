@@ -1,4 +1,4 @@
--- Each claim is a law of the file that it is taken from.
+-- The claims, each a law of proofs/.
 use Rattle.latency.proofs.Lists.{known-from-any-moment}
 use Rattle.latency.proofs.Drives.{drives-known-from-any-moment}
 use Rattle.latency.proofs.LastCrash.{known-from-crash, mixed-known-from-crash}

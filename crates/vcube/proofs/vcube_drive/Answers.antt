@@ -1,20 +1,23 @@
 -- What the drive leaves is what its definition says, and of that the laws of lists speak.
-use Rattle.std.proofs.Common.{sym, ap, subst}
+use Rattle.std.proofs.Common.{◌∙◌, sym, ap, subst}
 use Rattle.plant.specs.Entry.{state_of}
 use Rattle.granter.specs.Drive.{DriveResult}
 use Rattle.detection.specs.Driven.{a_drive}
 use Rattle.detection.proofs.DrivenDetection.{drive-detects}
 use Rattle.accuracy.specs.Accurate.{AccurateAfter}
 use Rattle.accuracy.proofs.Claims.{last-accurate}
+use Rattle.vcube.proofs.OnWiring.{of_wiring}
 use Rattle.vcube.proofs.vcube_drive.Goals as goal
 
 pub returns-clause-detection : goal.returns-clause-detection
 returns-clause-detection c =
     let before = state_of c.args.table.now c.args.rounds.now c.args.tests.now in
-    rw (← c.drive-driven.ensures.outcome) at (drive-detects c.args.wiring c.args.n before c.args.last.now)
+    of_wiring _ (sym c.in-Ok.is ∙ c.try_from.ensures)
+    (rw (← c.drive-driven.ensures.outcome) at (drive-detects c.in-Ok.wiring c.args.n before c.args.last.now))
 
 pub returns-clause-accurate : goal.returns-clause-accurate
 returns-clause-accurate c =
-    let call = a_drive c.args.wiring c.args.n c.args.last.now in
+    let call = a_drive c.in-Ok.wiring c.args.n c.args.last.now in
     let before = state_of c.args.table.now c.args.rounds.now c.args.tests.now in
-    subst (AccurateAfter call before) (sym (ap (λ (o : DriveResult). o.state) c.drive-driven.ensures.outcome)) (last-accurate call before)
+    of_wiring _ (sym c.in-Ok.is ∙ c.try_from.ensures)
+    (subst (AccurateAfter call before) (sym (ap (λ (o : DriveResult). o.state) c.drive-driven.ensures.outcome)) (last-accurate call before))

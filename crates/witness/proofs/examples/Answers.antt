@@ -1,4 +1,4 @@
--- Each claim is a law of the file that it is taken from.
+-- The claims, each a law of proofs/.
 use Rattle.witness.proofs.Witness.{witness, witness-3, witness-ring}
 use Rattle.witness.proofs.examples.Goals as goal
 

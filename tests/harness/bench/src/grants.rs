@@ -1,12 +1,12 @@
 //! How many grants pass from the death of a board until every live board
 //! suspects exactly the dead ones. Grants and turns are those of the library.
 
-use crate::detection::{random_dead, Plant};
 use shared::random::Random;
-use shared::schedule::CRASH;
 use shared::table::live_stations;
-use shared::wiring::Wiring;
-use vcube::Station;
+use vcube::{Entry, Kind, Plant, Station, Wait, Wiring};
+
+use crate::detection::{dead_are_known, grant_turn, random_dead};
+use crate::work::without;
 
 /// What a plant took, and the most that it can take by the rule Turns from a crash.
 #[derive(Clone, Copy, Debug, PartialEq, Eq)]
@@ -30,33 +30,30 @@ pub fn nearest(taken: &[Taken]) -> Taken {
 /// The most grants from a crash until it is known where nobody is dead before, whichever
 /// board it is.
 pub fn bound_of_first_crash(wiring: Wiring, n: usize) -> usize {
-    let bounds = (0..n).map(|board| {
-        Plant::with_dead(wiring, n, &[board])
-            .wait()
-            .turns_from_crash
-    });
-    bounds.max().expect("at least one board")
+    let bound = |board| wait(&without(wiring, n, &[board])).turns_from_crash;
+    (0..n).map(bound).max().expect("at least one board")
 }
 
-/// The grants until the dead are known, or an error if they are more than the bound.
-fn until_known(mut plant: Plant, bound: usize) -> Result<usize, String> {
-    for grants in 0..=bound {
-        if plant.dead_are_known() {
-            return Ok(grants);
-        }
-        plant.grant_turn();
-    }
-    Err(format!("the dead are not known after {bound} grants"))
+fn wait(plant: &Plant) -> Wait {
+    plant.wait().expect("a good table")
 }
 
-/// Lets a board crash, and grants turns until the dead are known.
+/// Lets a board crash, and grants turns until the dead are known. An error if they are
+/// more than the bound.
 fn crash(mut plant: Plant, board: usize) -> Result<Taken, String> {
-    plant.take([CRASH, board as u8]);
-    let (wiring, n) = (plant.wiring, plant.n);
-    let bound = plant.wait().turns_from_crash;
-    let grants = until_known(plant, bound);
-    let said = |what| format!("{n} boards, {}, crash of {board}: {what}", wiring.text());
-    grants.map(|grants| Taken { grants, bound }).map_err(said)
+    let (kind, station) = (Kind::Crash, Station(board));
+    plant.enter(Entry { kind, station }).expect("a live board");
+    let bound = wait(&plant).turns_from_crash;
+    for grants in 0..=bound {
+        if dead_are_known(&plant) {
+            return Ok(Taken { grants, bound });
+        }
+        grant_turn(&mut plant);
+    }
+    let (n, wiring) = (plant.size(), plant.wiring());
+    Err(format!(
+        "{n} boards, {wiring}, crash of {board}: the dead are not known after {bound} grants"
+    ))
 }
 
 /// Each board that crashes at each moment of the first round of a fresh plant,
@@ -64,12 +61,13 @@ fn crash(mut plant: Plant, board: usize) -> Result<Taken, String> {
 pub fn search(wiring: Wiring, n: usize) -> Result<Vec<Taken>, String> {
     let mut taken = Vec::new();
     for last in 0..n {
-        let mut plant = Plant::fresh(wiring, n).after(Station(last));
-        while plant.rounds == 0 {
+        let mut plant = without(wiring, n, &[]);
+        plant.last = Some(Station(last));
+        while plant.tally.rounds == 0 {
             for board in 0..n {
                 taken.push(crash(plant.clone(), board)?);
             }
-            plant.grant_turn();
+            grant_turn(&mut plant);
         }
     }
     Ok(taken)
@@ -85,15 +83,16 @@ pub fn random(wiring: Wiring, n: usize, random: &mut Random) -> Result<Taken, St
     };
     dead.truncate(n - 3);
     let last = Station(random.below(n));
-    let mut plant = Plant::with_dead(wiring, n, &dead).after(last);
-    let rounds = random.below(plant.wait().rounds + 1) as u32;
-    while plant.rounds < rounds {
-        plant.grant_turn();
+    let mut plant = without(wiring, n, &dead);
+    plant.last = Some(last);
+    let rounds = random.below(wait(&plant).rounds + 1) as u32;
+    while plant.tally.rounds < rounds {
+        grant_turn(&mut plant);
     }
     // As many as a round can have, so that each of its moments can come.
-    for _ in 0..random.below(plant.wait().turns_per_round) {
-        plant.grant_turn();
+    for _ in 0..random.below(wait(&plant).turns_per_round) {
+        grant_turn(&mut plant);
     }
-    let live = live_stations(n, &plant.table);
+    let live = live_stations(n, plant.table());
     crash(plant, random.pick(&live))
 }

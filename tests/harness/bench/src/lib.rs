@@ -1,13 +1,11 @@
-//! A benchmark of the library's calls beside plain Rust and the simulator, and an
+//! A benchmark of the library's calls beside plain Rust, and an
 //! experiment on how many rounds and grants pass until the dead boards are known.
 
 #![forbid(unsafe_code)]
 
 pub mod detection;
 pub mod grants;
-pub mod library;
 pub mod measure;
-pub mod pictures;
 pub mod plain;
 pub mod plain_drive;
 pub mod plain_figures;

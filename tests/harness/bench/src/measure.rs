@@ -1,4 +1,4 @@
-//! Compares the three implementations on the same work, and then times them on it.
+//! Compares library and plain Rust on the same work, and then times them on it.
 
 use std::fmt::Debug;
 use std::hint::black_box;
@@ -22,54 +22,43 @@ impl<'a, W> Batch<'a, W> {
         }
     }
 
-    /// The seconds that the calls of all works take together with library, plain Rust and
-    /// simulator: the best of the repetitions, each of which times one after the other.
-    /// An error if one answers or leaves other bytes than the others, or if an answer is
-    /// not what is right.
+    /// The seconds that the calls of all works take together with the library and with plain
+    /// Rust: the best of the repetitions, each of which times one after the other. An error
+    /// if one answers or leaves other bytes than the other.
     pub fn best_times<A: Debug + PartialEq>(
         &self,
         repetitions: usize,
-        is_right: impl Fn(&W, &A) -> bool,
         library: impl Fn(&W, &mut [u8], &mut [u8]) -> A,
         plain: impl Fn(&W, &mut [u8], &mut [u8]) -> A,
-        simulator: impl Fn(&W, &mut [u8], &mut [u8]) -> A,
-    ) -> Result<[f64; 3], String> {
-        let by_library = self.answers(&library);
-        let by_others = [
-            ("plain Rust", self.answers(&plain)),
-            ("the simulator", self.answers(&simulator)),
-        ];
-        for (place, (work, answer)) in self.works.iter().zip(&by_library).enumerate() {
-            if !is_right(work, &answer.0) {
-                return Err(format!("work {place}: the library answers {:?}", answer.0));
-            }
-            for (name, answers) in &by_others {
-                if answers[place] != *answer {
-                    let (one, other) = (&answer.0, &answers[place].0);
-                    return Err(format!("work {place}: the library answers {one:?}, {name} {other:?}, or other bytes"));
-                }
+    ) -> Result<[f64; 2], String> {
+        let both = self.answers(&library).zip(self.answers(&plain));
+        for (place, (one, other)) in both.enumerate() {
+            if one != other {
+                let (one, other) = (one.0, other.0);
+                return Err(format!("work {place}: the library answers {one:?}, plain Rust {other:?}, or other bytes"));
             }
         }
         let mut lent = (self.filled.clone(), vec![0; self.shared]);
-        let mut best = [f64::INFINITY; 3];
+        let mut best = [f64::INFINITY; 2];
         for _ in 0..repetitions {
             best[0] = best[0].min(self.time(&mut lent, &library));
             best[1] = best[1].min(self.time(&mut lent, &plain));
-            best[2] = best[2].min(self.time(&mut lent, &simulator));
         }
         Ok(best)
     }
 
     /// What is answered for each work, and both buffers afterwards.
-    fn answers<A>(
-        &self,
-        call: impl Fn(&W, &mut [u8], &mut [u8]) -> A,
-    ) -> Vec<(A, Vec<u8>, Vec<u8>)> {
-        let answer = |(work, filled): (&W, &Vec<u8>)| {
-            let (mut own, mut shared) = (filled.clone(), vec![0; self.shared]);
-            (call(work, &mut own, &mut shared), own, shared)
-        };
-        self.works.iter().zip(&self.filled).map(answer).collect()
+    fn answers<'b, A>(
+        &'b self,
+        call: impl Fn(&W, &mut [u8], &mut [u8]) -> A + 'b,
+    ) -> impl Iterator<Item = (A, Vec<u8>, Vec<u8>)> + 'b {
+        self.works
+            .iter()
+            .zip(&self.filled)
+            .map(move |(work, filled)| {
+                let (mut own, mut shared) = (filled.clone(), vec![0; self.shared]);
+                (call(work, &mut own, &mut shared), own, shared)
+            })
     }
 
     fn time<A>(

@@ -4,104 +4,86 @@
 //! exchanged. (The library looks at the entry's own station first and leaves equal
 //! rows alone.)
 
-use shared::wiring::Wiring;
-use simulator::Answer;
-
-/// The bytes of a line before its row, and what they hold.
-pub const HEAD: usize = 6;
-pub const STATUS: usize = 0;
-pub const NEXT: usize = 1;
-pub const FINISHED: usize = 2;
-pub const TESTS: usize = 3;
-/// The station whose row told it to leave.
-pub const TOLD_BY: usize = 4;
-/// The rounds closed since it ceased to be live.
-pub const CLOSED_SINCE: usize = 5;
-
-pub const LIVE: u8 = 0;
-pub const CRASHED: u8 = 1;
-pub const TOLD: u8 = 2;
-pub const ALONE: u8 = 3;
-
-/// Byte 4 where no station told it to leave; where that was never recorded.
-pub const TOLD_BY_NONE: u8 = 255;
-pub const NOT_RECORDED: u8 = 254;
-
-pub const TURN: u8 = 1;
-const CRASH: u8 = 3;
+use shared::schedule::{CRASH, TURN};
+use shared::table::{CLOSED_SINCE, CRASHED, FINISHED, HEAD, LEFT_ALONE, LEFT_TOLD, LIVE};
+use shared::table::{NEXT_DISTANCE, NOT_RECORDED, STATUS, TESTS, TOLD_BY, TOLD_BY_NONE};
+use vcube::{Answer, Outcome, Refusal, Tally, Wiring};
 
 /// Byte 1 of a line of the sheet when no station was tested.
 const NO_STATION: u8 = 255;
 
-const PASS_FINISHED: u8 = 0;
-const EXCHANGED: u8 = 1;
-const WAS_TOLD: u8 = 2;
-const NO_REPLY: u8 = 3;
-const CRASH_OUTCOME: u8 = 4;
-const TESTED_TOLD: u8 = 5;
-
-/// Run: refusals 1 to 6, then 7 to 11 at each entry, on a tally of 0.
+/// Run: refusals 1 to 6, then 7 to 11 at each entry.
 pub fn run(
     wiring: Wiring,
     n: usize,
     table: &mut [u8],
+    tally: &mut Tally,
     schedule: &[u8],
     sheet: &mut [u8],
 ) -> Answer {
     let mut answer = Answer {
-        number: start_refusal(wiring, n, table, schedule.len(), sheet.len()),
+        refusal: check_run(wiring, n, table, schedule, sheet).err(),
         taken: 0,
-        rounds: 0,
-        tests: 0,
     };
-    if answer.number != 0 {
+    if answer.refusal.is_some() {
         return answer;
     }
     for (entry, place) in schedule.chunks_exact(2).zip(sheet.chunks_exact_mut(4)) {
-        answer.number = entry_refusal(n, table, &answer, entry);
-        if answer.number != 0 {
+        answer.refusal = check_entry(n, table, *tally, entry).err();
+        if answer.refusal.is_some() {
             return answer;
         }
-        take_entry(wiring, n, table, &mut answer, entry, place);
+        take_entry(wiring, n, table, tally, entry, place);
         answer.taken += 1;
     }
     answer
 }
 
-/// Refusals 1 to 6, or 0.
-fn start_refusal(wiring: Wiring, n: usize, table: &[u8], schedule: usize, sheet: usize) -> u8 {
-    let number = table_refusal(wiring, n, table);
-    if number != 0 {
-        return number;
+/// Refusals 1 to 6.
+fn check_run(
+    wiring: Wiring,
+    n: usize,
+    table: &[u8],
+    schedule: &[u8],
+    sheet: &[u8],
+) -> Result<(), Refusal> {
+    check_table(wiring, n, table)?;
+    if !schedule.len().is_multiple_of(2) {
+        return Err(Refusal::ScheduleLength);
     }
-    if !schedule.is_multiple_of(2) {
-        return 5;
+    if sheet.len() != 2 * schedule.len() {
+        return Err(Refusal::SheetLength);
     }
-    if sheet != 2 * schedule {
-        return 6;
-    }
-    0
+    Ok(())
 }
 
-/// Refusals 1 to 4, or 0. It stands by itself, with the loop over a row in it: where that
+/// Refusals 1 to 4. It stands by itself, with the loop over a row in it: where that
 /// was not so the loop was not aligned, and the check took twice the time.
 #[inline(never)]
-pub fn table_refusal(wiring: Wiring, n: usize, table: &[u8]) -> u8 {
+pub fn check_table(wiring: Wiring, n: usize, table: &[u8]) -> Result<(), Refusal> {
     if !(2..=64).contains(&n) {
-        return 1;
+        return Err(Refusal::SizeOutOfRange);
     }
     if table.len() != n * (n + HEAD) {
-        return 2;
+        return Err(Refusal::TableLength);
     }
-    let end = wiring.end(n);
+    let end = end(wiring, n);
     let mut lines = table.chunks_exact(n + HEAD).enumerate();
     if !lines.all(|(i, line)| keeps_line_rules(end, i, line)) {
-        return 3;
+        return Err(Refusal::LineRule);
     }
     if is_round_over(n, table) {
-        return 4;
+        return Err(Refusal::RoundNotClosed);
     }
-    0
+    Ok(())
+}
+
+/// The next distance of a finished line.
+pub fn end(wiring: Wiring, n: usize) -> usize {
+    match wiring {
+        Wiring::Cube => n.next_power_of_two(),
+        Wiring::Ring => n,
+    }
 }
 
 #[inline(always)]
@@ -115,10 +97,10 @@ pub fn keeps_line_rules(end: usize, i: usize, line: &[u8]) -> bool {
 
 /// The rules of bytes 1 to 3.
 pub fn keeps_pass_rules(end: usize, head: &[u8]) -> bool {
-    let next = usize::from(head[NEXT]);
+    let next = usize::from(head[NEXT_DISTANCE]);
     (1..=end).contains(&next)
         && head[FINISHED] <= 1
-        && head[TESTS] < head[NEXT]
+        && head[TESTS] < head[NEXT_DISTANCE]
         && (head[FINISHED] == 0 || next == end)
 }
 
@@ -127,8 +109,8 @@ fn keeps_status_rules(n: usize, i: usize, head: &[u8]) -> bool {
     let told_by = head[TOLD_BY];
     match head[STATUS] {
         LIVE => told_by == TOLD_BY_NONE && head[CLOSED_SINCE] == 0,
-        TOLD => told_by == NOT_RECORDED || is_another(n, i, told_by),
-        CRASHED | ALONE => told_by == TOLD_BY_NONE,
+        LEFT_TOLD => told_by == NOT_RECORDED || is_another(n, i, told_by),
+        CRASHED | LEFT_ALONE => told_by == TOLD_BY_NONE,
         _ => false,
     }
 }
@@ -153,31 +135,31 @@ fn is_round_over(n: usize, table: &[u8]) -> bool {
     some_live
 }
 
-/// Refusals 7 to 11, or 0.
-fn entry_refusal(n: usize, table: &[u8], answer: &Answer, entry: &[u8]) -> u8 {
+/// Refusals 7 to 11.
+fn check_entry(n: usize, table: &[u8], tally: Tally, entry: &[u8]) -> Result<(), Refusal> {
     let (kind, i) = (entry[0], usize::from(entry[1]));
-    if is_full(answer) {
-        return 7;
+    if is_full(tally) {
+        return Err(Refusal::TallyFull);
     }
     if !(TURN..=CRASH).contains(&kind) {
-        return 8;
+        return Err(Refusal::UnknownKind);
     }
     if i >= n {
-        return 9;
+        return Err(Refusal::NoSuchStation);
     }
     let line = &table[i * (n + HEAD)..];
     if line[STATUS] != LIVE {
-        return 10;
+        return Err(Refusal::NotLive);
     }
     if kind != CRASH && line[FINISHED] == 1 {
-        return 11;
+        return Err(Refusal::PassFinished);
     }
-    0
+    Ok(())
 }
 
 /// Whether either tally stands at its end.
-pub fn is_full(answer: &Answer) -> bool {
-    answer.rounds == u32::MAX || answer.tests == u32::MAX
+pub fn is_full(tally: Tally) -> bool {
+    tally.rounds == u32::MAX || tally.tests == u32::MAX
 }
 
 /// What an entry does, its line of the sheet and the tally. The run and the
@@ -187,7 +169,7 @@ pub fn take_entry(
     wiring: Wiring,
     n: usize,
     table: &mut [u8],
-    answer: &mut Answer,
+    tally: &mut Tally,
     entry: &[u8],
     place: &mut [u8],
 ) {
@@ -195,34 +177,34 @@ pub fn take_entry(
     let at = i * (n + HEAD);
     let (tested, outcome) = if kind == CRASH {
         table[at + STATUS] = CRASHED;
-        (NO_STATION, CRASH_OUTCOME)
+        (NO_STATION, Outcome::Crash)
     } else {
         take_turn(wiring, n, table, kind, i)
     };
     if tested != NO_STATION {
-        answer.tests += 1;
+        tally.tests += 1;
     }
     if is_round_over(n, table) {
         begin_round(n, table);
-        answer.rounds += 1;
+        tally.rounds += 1;
     }
-    place.copy_from_slice(&[i as u8, tested, outcome, table[at + STATUS]]);
+    place.copy_from_slice(&[i as u8, tested, outcome as u8, table[at + STATUS]]);
 }
 
 /// A turn: gives the tested station and the outcome.
-fn take_turn(wiring: Wiring, n: usize, table: &mut [u8], kind: u8, i: usize) -> (u8, u8) {
+fn take_turn(wiring: Wiring, n: usize, table: &mut [u8], kind: u8, i: usize) -> (u8, Outcome) {
     let line = line_of(n, table, i);
     match next_test(wiring, i, line) {
         None => {
-            line[NEXT] = wiring.end(n) as u8;
+            line[NEXT_DISTANCE] = end(wiring, n) as u8;
             line[FINISHED] = 1;
-            (NO_STATION, PASS_FINISHED)
+            (NO_STATION, Outcome::PassFinished)
         }
         Some((m, j)) => {
             let outcome = test(n, table, kind, i, j);
             let line = line_of(n, table, i);
-            line[NEXT] = match (wiring, outcome) {
-                (Wiring::Ring, EXCHANGED) => n as u8,
+            line[NEXT_DISTANCE] = match (wiring, outcome) {
+                (Wiring::Ring, Outcome::Exchanged) => n as u8,
                 _ => m as u8 + 1,
             };
             line[TESTS] += 1;
@@ -235,12 +217,12 @@ fn take_turn(wiring: Wiring, n: usize, table: &mut [u8], kind: u8, i: usize) -> 
 /// The distance of the next test of station i with this line, and the station
 /// that stands there.
 fn next_test(wiring: Wiring, i: usize, line: &[u8]) -> Option<(usize, usize)> {
-    let next = usize::from(line[NEXT]);
+    let next = usize::from(line[NEXT_DISTANCE]);
     let row = &line[HEAD..];
     let n = row.len();
     match wiring {
         Wiring::Cube => {
-            let m = (next..wiring.end(n)).find(|m| is_due(row, i, *m))?;
+            let m = (next..end(wiring, n)).find(|m| is_due(row, i, *m))?;
             Some((m, i ^ m))
         }
         Wiring::Ring if next == n => None,
@@ -267,22 +249,22 @@ pub fn is_due(row: &[u8], i: usize, m: usize) -> bool {
 }
 
 /// What comes of a test: gives the outcome.
-fn test(n: usize, table: &mut [u8], kind: u8, i: usize, j: usize) -> u8 {
+fn test(n: usize, table: &mut [u8], kind: u8, i: usize, j: usize) -> Outcome {
     let (mine, theirs) = two_lines(n, table, i, j);
     if theirs[STATUS] != LIVE || kind != TURN {
         mine[HEAD + j] = 1;
-        NO_REPLY
+        Outcome::NoReply
     } else if theirs[HEAD + i] == 1 {
-        mine[STATUS] = TOLD;
+        mine[STATUS] = LEFT_TOLD;
         mine[TOLD_BY] = j as u8;
-        WAS_TOLD
+        Outcome::Told
     } else if mine[HEAD + j] == 1 {
-        theirs[STATUS] = TOLD;
+        theirs[STATUS] = LEFT_TOLD;
         theirs[TOLD_BY] = i as u8;
-        TESTED_TOLD
+        Outcome::TestedTold
     } else {
         exchange(&mut mine[HEAD..], &mut theirs[HEAD..], i, j);
-        EXCHANGED
+        Outcome::Exchanged
     }
 }
 
@@ -314,7 +296,7 @@ fn exchange(mine: &mut [u8], theirs: &mut [u8], i: usize, j: usize) {
 fn leave_if_alone(line: &mut [u8], i: usize) {
     let mut others = line[HEAD..].iter().enumerate();
     if line[STATUS] == LIVE && others.all(|(k, byte)| k == i || *byte == 1) {
-        line[STATUS] = ALONE;
+        line[STATUS] = LEFT_ALONE;
     }
 }
 
@@ -322,7 +304,7 @@ fn leave_if_alone(line: &mut [u8], i: usize) {
 /// closed one.
 fn begin_round(n: usize, table: &mut [u8]) {
     for line in table.chunks_exact_mut(n + HEAD) {
-        line[NEXT] = 1;
+        line[NEXT_DISTANCE] = 1;
         line[FINISHED] = 0;
         line[TESTS] = 0;
         if line[STATUS] != LIVE {

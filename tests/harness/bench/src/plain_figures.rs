@@ -1,21 +1,15 @@
 //! The figures in plain Rust: totals in one loop, and lowest terms by Euclid's
 //! divisor.
 
-use simulator::{Figures, Fraction};
-use vcube::MOST_RESULTS;
+use vcube::{Figures, Fraction, Refusal, MOST_RESULTS};
 
 /// Figures of a list: refusals 14, 15.
-pub fn figures(results: &[u16]) -> Figures {
-    let number = match results.len() {
-        0 => 14,
-        length if length > MOST_RESULTS => 15,
-        _ => 0,
-    };
-    if number != 0 {
-        return Figures {
-            number,
-            ..Figures::default()
-        };
+pub fn figures(results: &[u16]) -> Result<Figures, Refusal> {
+    if results.is_empty() {
+        return Err(Refusal::NoResult);
+    }
+    if results.len() > MOST_RESULTS {
+        return Err(Refusal::TooManyResults);
     }
     let (mut sum, mut squares) = (0, 0);
     let (mut least, mut greatest) = (u64::MAX, 0);
@@ -26,14 +20,13 @@ pub fn figures(results: &[u16]) -> Figures {
         greatest = greatest.max(result);
     }
     let count = results.len() as u64;
-    Figures {
-        number: 0,
+    Ok(Figures {
         count,
         least,
         greatest,
         mean: lowest_terms(sum, count),
         variance: lowest_terms(count * squares - sum * sum, count * count),
-    }
+    })
 }
 
 /// The lower part is not 0.

@@ -1,32 +1,26 @@
 //! The reading of an input in plain Rust. Of a line that cannot be read it says
 //! which it is, and has no words: the bench times inputs that can be read.
 
-use simulator::{InputRead, SCHEDULE_LENGTH};
+use vcube::{Input, SCHEDULE_LENGTH};
 
-/// Input: refusal 13.
-pub fn read_input(input: &[u8], schedule: &mut [u8]) -> InputRead {
-    let mut read = InputRead::default();
-    if schedule.len() != SCHEDULE_LENGTH {
-        read.number = 13;
-        return read;
-    }
+/// What was read, or the number of the first line that cannot be read.
+pub fn read_input(input: &[u8], schedule: &mut [u8; SCHEDULE_LENGTH]) -> Result<Input, usize> {
     let text = input.strip_suffix(b"\n").unwrap_or(input);
     let mut lines = text.split(|byte| *byte == b'\n');
-    let Some(n) = lines.next().and_then(|line| number(line, 3)) else {
-        read.line = 1;
-        return read;
-    };
-    read.n = n;
+    let n = lines
+        .next()
+        .and_then(|line| number(line, 3))
+        .ok_or(1_usize)?;
     let mut places = schedule.chunks_exact_mut(2);
+    let mut entries = 0;
     for line in lines {
         let (Some(place), Some(entry)) = (places.next(), entry(line)) else {
-            read.line = read.entries + 2;
-            return read;
+            return Err(entries + 2);
         };
         place.copy_from_slice(&entry);
-        read.entries += 1;
+        entries += 1;
     }
-    read
+    Ok(Input { n, entries })
 }
 
 fn entry(line: &[u8]) -> Option<[u8; 2]> {

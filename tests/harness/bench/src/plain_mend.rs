@@ -1,25 +1,31 @@
 //! Mending in plain Rust over the lent bytes.
 
-use crate::plain::{is_another, keeps_pass_rules, ALONE, CRASHED, FINISHED, HEAD, LIVE, NEXT};
-use crate::plain::{CLOSED_SINCE, NOT_RECORDED, STATUS, TESTS, TOLD, TOLD_BY, TOLD_BY_NONE};
-use shared::wiring::Wiring;
+use crate::plain::{end, is_another, keeps_pass_rules};
+use shared::table::{CLOSED_SINCE, CRASHED, FINISHED, HEAD, LEFT_ALONE, LEFT_TOLD, LIVE};
+use shared::table::{NEXT_DISTANCE, NOT_RECORDED, STATUS, TESTS, TOLD_BY, TOLD_BY_NONE};
+use vcube::{Refusal, Wiring};
 
 /// The bytes of a listed change.
 const CHANGE: usize = 4;
 
 /// Makes the table keep all rules, and lists each byte that was changed: refusals 1, 2
-/// and 23. Gives the number and how many changes there are.
-pub fn mend(wiring: Wiring, n: usize, table: &mut [u8], report: &mut [u8]) -> (u8, usize) {
+/// and 23. Gives how many changes there are.
+pub fn mend(
+    wiring: Wiring,
+    n: usize,
+    table: &mut [u8],
+    report: &mut [u8],
+) -> Result<usize, Refusal> {
     if !(2..=64).contains(&n) {
-        return (1, 0);
+        return Err(Refusal::SizeOutOfRange);
     }
     if table.len() != n * (n + HEAD) {
-        return (2, 0);
+        return Err(Refusal::TableLength);
     }
     if report.len() < CHANGE * table.len() {
-        return (23, 0);
+        return Err(Refusal::ReportTooShort);
     }
-    let end = wiring.end(n);
+    let end = end(wiring, n);
     let over = is_over(end, n, table);
     let mut changes = 0;
     let mut offset = 0;
@@ -36,7 +42,7 @@ pub fn mend(wiring: Wiring, n: usize, table: &mut [u8], report: &mut [u8]) -> (u
         }
     }
     report[CHANGE * changes..].fill(0);
-    (0, changes)
+    Ok(changes)
 }
 
 /// Writes the byte, and lists it if it was another one.
@@ -66,16 +72,16 @@ fn is_over(end: usize, n: usize, table: &[u8]) -> bool {
 /// Bytes 0 to 5 of a line, mended.
 fn mended_head(end: usize, n: usize, own: usize, line: &[u8], over: bool) -> [u8; HEAD] {
     let status = match line[STATUS] {
-        status @ ..=ALONE => status,
+        status @ ..=LEFT_ALONE => status,
         _ => CRASHED,
     };
     let [next, finished, tests] = match over || !keeps_pass_rules(end, line) {
         true => [1, 0, 0],
-        false => [line[NEXT], line[FINISHED], line[TESTS]],
+        false => [line[NEXT_DISTANCE], line[FINISHED], line[TESTS]],
     };
     let told_by = match status {
-        TOLD if is_another(n, own, line[TOLD_BY]) => line[TOLD_BY],
-        TOLD => NOT_RECORDED,
+        LEFT_TOLD if is_another(n, own, line[TOLD_BY]) => line[TOLD_BY],
+        LEFT_TOLD => NOT_RECORDED,
         _ => TOLD_BY_NONE,
     };
     let since = match status {

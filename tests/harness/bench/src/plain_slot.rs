@@ -1,22 +1,18 @@
 //! The slot of a station in plain Rust over the lent bytes.
 
-use crate::plain::{is_due, table_refusal, HEAD, LIVE, STATUS};
-use shared::wiring::Wiring;
-use simulator::Slot;
+use crate::plain::{check_table, end, is_due};
+use shared::table::{HEAD, LIVE, STATUS};
 use std::mem::replace;
+use vcube::{Refusal, Slot, Station, Wiring};
 
 /// The tests of station i a round, and the most with one more dead: refusals 1 to 4, 9, 10.
-pub fn slot(n: usize, table: &[u8], i: usize) -> Slot {
-    let number = match table_refusal(Wiring::Cube, n, table) {
-        0 if i >= n => 9,
-        0 if table[i * (n + HEAD) + STATUS] != LIVE => 10,
-        number => number,
-    };
-    if number != 0 {
-        return Slot {
-            number,
-            ..Slot::default()
-        };
+pub fn slot(n: usize, table: &[u8], Station(i): Station) -> Result<Slot, Refusal> {
+    check_table(Wiring::Cube, n, table)?;
+    if i >= n {
+        return Err(Refusal::NoSuchStation);
+    }
+    if table[i * (n + HEAD) + STATUS] != LIVE {
+        return Err(Refusal::NotLive);
     }
     let mut row = [0; 64];
     let row = &mut row[..n];
@@ -29,15 +25,14 @@ pub fn slot(n: usize, table: &[u8], i: usize) -> Slot {
         row[k] = before;
         tests
     });
-    Slot {
-        number: 0,
+    Ok(Slot {
         most: tests_without.max().unwrap_or(0),
         tests: tests_now,
-    }
+    })
 }
 
 /// How many distances are due by the row.
 fn tests(row: &[u8], i: usize) -> usize {
-    let distances = 1..Wiring::Cube.end(row.len());
+    let distances = 1..end(Wiring::Cube, row.len());
     distances.filter(|m| is_due(row, i, *m)).count()
 }

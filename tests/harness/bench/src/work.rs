@@ -1,199 +1,93 @@
-//! What is timed: tables, schedules and files.
+//! What is timed: plants, schedules and inputs.
 
-use crate::library;
 use shared::random::Random;
-use shared::schedule::{CRASH, LATE_TURN, TURN};
-use shared::table::{self, Line, HEAD};
-use shared::wiring::Wiring;
-use vcube::Outcome;
+use shared::table::{live_stations, unfinished_stations, HEAD, LIVE, STATUS};
+use vcube::{line_length, Entry, Kind, Plant, Station, Wiring};
 
 /// The turns of a station that are made before a plant is saved or mended: the dead are
 /// partly known then.
 const TURNS: usize = 6;
 
-/// A table, and a schedule of turns for it of which all are taken.
-#[derive(Clone)]
-pub struct Work {
-    pub wiring: Wiring,
-    pub n: usize,
-    /// How many stations are crashed.
-    pub dead: usize,
-    pub table: Vec<u8>,
-    pub schedule: Vec<u8>,
+/// A fresh plant in which these stations crash.
+pub fn without(wiring: Wiring, n: usize, dead: &[usize]) -> Plant {
+    let mut plant = Plant::new(wiring, n).expect("a size");
+    for station in dead.iter().copied().map(Station) {
+        let kind = Kind::Crash;
+        plant.enter(Entry { kind, station }).expect("a live one");
+    }
+    plant
 }
 
-impl Work {
-    /// A fresh table on which random stations are crashed, and no entry.
-    pub fn start(wiring: Wiring, n: usize, dead: usize, random: &mut Random) -> Work {
-        Work::without(wiring, n, &random.order(n)[..dead])
-    }
+/// The same of so many random stations.
+pub fn with_dead(wiring: Wiring, n: usize, dead: usize, random: &mut Random) -> Plant {
+    without(wiring, n, &random.order(n)[..dead])
+}
 
-    fn without(wiring: Wiring, n: usize, crashed: &[usize]) -> Work {
-        let mut table = table::fresh(n);
-        for i in crashed {
-            table[i * table::line_length(n) + table::STATUS] = table::CRASHED;
-        }
-        Work {
-            wiring,
-            n,
-            dead: crashed.len(),
-            table,
-            schedule: Vec::new(),
-        }
+/// Stations from 2 on are dead, and each live one suspects just these.
+pub fn with_known_dead(wiring: Wiring, n: usize, dead: usize) -> Plant {
+    let mut plant = without(wiring, n, &Vec::from_iter(2..2 + dead));
+    let lines = plant.table_mut().chunks_exact_mut(line_length(n));
+    for line in lines.filter(|line| line[STATUS] == LIVE) {
+        line[HEAD + 2..][..dead].fill(1);
     }
+    plant
+}
 
-    /// With turns of live stations that have not finished their pass, in a random
-    /// interleaving over many rounds.
-    pub fn with_turns(mut self, entries: usize, random: &mut Random) -> Work {
-        let mut table = self.table.clone();
-        for _ in 0..entries {
-            self.add(TURN, &mut table, random);
-        }
-        self
+/// A quarter of the stations is dead, and some turns were made.
+pub fn later(wiring: Wiring, n: usize, random: &mut Random) -> Plant {
+    let mut plant = with_dead(wiring, n, n / 4, random);
+    for _ in 0..TURNS * n {
+        enter(&mut plant, Kind::Turn, random);
     }
+    plant
+}
 
-    /// With late turns and crashes among them, until nobody is live.
-    pub fn with_exits(mut self, random: &mut Random) -> Work {
-        let mut table = self.table.clone();
-        while !table::live_stations(self.n, &table).is_empty() {
-            let kind = random.pick(&[TURN, TURN, TURN, TURN, TURN, TURN, LATE_TURN, CRASH]);
-            self.add(kind, &mut table, random);
-        }
-        self
-    }
+/// So many turns of live stations that have not finished their pass, in a random
+/// interleaving over many rounds.
+pub fn turns(plant: &Plant, entries: usize, random: &mut Random) -> Vec<u8> {
+    let mut plant = plant.clone();
+    let turn = |_| enter(&mut plant, Kind::Turn, random);
+    (0..entries).flat_map(turn).collect()
+}
 
-    /// The same up to the end of the first round.
-    pub fn with_round(mut self, random: &mut Random) -> Work {
-        let mut table = self.table.clone();
-        while self.add(TURN, &mut table, random) == 0 {}
-        self
-    }
-
-    /// One turn of station 0 on a fresh table.
-    pub fn one_turn(wiring: Wiring, n: usize) -> Work {
-        let mut work = Work::without(wiring, n, &[]);
-        work.schedule = vec![TURN, 0];
-        work
-    }
-
-    pub fn no_entry(wiring: Wiring, n: usize) -> Work {
-        Work::without(wiring, n, &[])
-    }
-
-    /// Each live station suspects just the dead, but for one pair of live ones, the first
-    /// of which suspects the second. The dead are stations from 2 on, and not the last two.
-    pub fn with_pair(wiring: Wiring, n: usize, dead: usize, pair: Option<(u8, u8)>) -> Work {
-        let crashed: Vec<usize> = (2..2 + dead).collect();
-        let mut work = Work::without(wiring, n, &crashed);
-        let live = table::live_stations(n, &work.table);
-        let known = live
-            .iter()
-            .flat_map(|by| crashed.iter().map(|of| (*by, *of)));
-        for (by, of) in known.chain(pair.map(|(by, of)| (by.into(), of.into()))) {
-            work.table[by * table::line_length(n) + HEAD + of] = 1;
-        }
-        work
-    }
-
-    /// A quarter of the stations is dead, and some turns were made. Gives the tally, too.
-    pub fn later(wiring: Wiring, n: usize, random: &mut Random) -> (Work, (u32, u32)) {
-        let work = Work::start(wiring, n, n / 4, random).with_turns(TURNS * n, random);
-        let Work {
-            mut table,
-            schedule,
-            ..
-        } = work;
-        let mut sheet = vec![0; 2 * schedule.len()];
-        let number = wiring.number();
-        let answer = simulator::run(number, n, &mut table, (0, 0), &schedule, &mut sheet);
-        let schedule = Vec::new();
-        let work = Work {
-            table,
-            schedule,
-            ..work
+/// Turns with late ones and crashes among them, until nobody is live.
+pub fn exits(plant: &Plant, random: &mut Random) -> Vec<u8> {
+    let (mut plant, mut schedule) = (plant.clone(), Vec::new());
+    while !live_stations(plant.size(), plant.table()).is_empty() {
+        let kind = match random.below(8) {
+            0 => Kind::LateTurn,
+            1 => Kind::Crash,
+            _ => Kind::Turn,
         };
-        (work, (answer.rounds, answer.tests))
+        schedule.extend(enter(&mut plant, kind, random));
     }
+    schedule
+}
 
-    /// Adds an entry that the table takes and works it on the table. Gives how many rounds
-    /// it closes.
-    fn add(&mut self, kind: u8, table: &mut [u8], random: &mut Random) -> u32 {
-        let ready = table::unfinished_stations(self.n, table);
-        let entry = [kind, random.pick(&ready) as u8];
-        self.schedule.extend(entry);
-        library::run_entry(self.wiring, self.n, table, entry).1
-    }
+/// An entry that is taken, of any station.
+fn enter(plant: &mut Plant, kind: Kind, random: &mut Random) -> [u8; 2] {
+    let ready = unfinished_stations(plant.size(), plant.table());
+    let station = Station(random.pick(&ready));
+    let entry = Entry { kind, station };
+    plant.enter(entry).expect("its pass is not finished");
+    entry.bytes()
+}
 
-    pub fn entries(&self) -> usize {
-        self.schedule.len() / 2
-    }
+/// A table of a later plant: as it is, with a byte of a row that is neither 0 nor 1, or
+/// random bytes.
+pub const DAMAGES: [&str; 3] = ["good", "one byte damaged", "random bytes"];
 
-    /// How many entries exchange rows that differ, and how many exchange rows.
-    pub fn exchanges(&self) -> (usize, usize) {
-        let mut table = self.table.clone();
-        let mut exchanges = (0, 0);
-        for entry in self.schedule.chunks_exact(2) {
-            let before = table.clone();
-            let entry = [entry[0], entry[1]];
-            let (sheet, _) = library::run_entry(self.wiring, self.n, &mut table, entry);
-            let row = |i: u8| table::lines(self.n, &before).nth(i.into()).map(Line::row);
-            if sheet[2] == Outcome::Exchanged.number() {
-                exchanges.0 += usize::from(row(sheet[0]) != row(sheet[1]));
-                exchanges.1 += 1;
-            }
+pub fn damaged(damage: &str, wiring: Wiring, n: usize, random: &mut Random) -> Vec<u8> {
+    let mut table = later(wiring, n, random).table().to_vec();
+    match damage {
+        "one byte damaged" => {
+            let line = random.below(n) * line_length(n);
+            table[line + HEAD + random.below(n)] = random.between(2, 255) as u8;
         }
-        exchanges
+        "random bytes" => table = random.bytes(table.len()),
+        _ => {}
     }
-}
-
-/// A plant with its tally, and the file that the simulator saves of it.
-pub struct Saved {
-    pub work: Work,
-    pub tally: (u32, u32),
-    pub file: Vec<u8>,
-}
-
-impl Saved {
-    pub fn new(n: usize, random: &mut Random) -> Saved {
-        let (work, tally) = Work::later(Wiring::Cube, n, random);
-        let mut file = vec![0; vcube::saved_length(n)];
-        assert_eq!(simulator::save(n, &work.table, tally, &mut file), 0);
-        Saved { work, tally, file }
-    }
-}
-
-/// What is wrong with a table that is mended.
-#[derive(Clone, Copy)]
-pub enum Damage {
-    Nothing,
-    OneByte,
-    RandomBytes,
-}
-
-impl Damage {
-    pub const ALL: [Damage; 3] = [Damage::Nothing, Damage::OneByte, Damage::RandomBytes];
-
-    pub fn text(self) -> &'static str {
-        match self {
-            Damage::Nothing => "good",
-            Damage::OneByte => "one byte damaged",
-            Damage::RandomBytes => "random bytes",
-        }
-    }
-
-    pub fn work(self, wiring: Wiring, n: usize, random: &mut Random) -> Work {
-        let (mut work, _) = Work::later(wiring, n, random);
-        match self {
-            Damage::Nothing => {}
-            Damage::OneByte => {
-                // A byte of a row that is neither 0 nor 1.
-                let line = random.below(n) * table::line_length(n);
-                work.table[line + HEAD + random.below(n)] = random.between(2, 255) as u8;
-            }
-            Damage::RandomBytes => work.table = random.bytes(work.table.len()),
-        }
-        work
-    }
+    table
 }
 
 /// An input of 64 boards with so many random entries, of which all can be read.

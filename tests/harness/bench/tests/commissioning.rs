@@ -1,12 +1,12 @@
 //! The table under "Cube or ring" of docs/COMMISSIONING.md, and what the page says of it.
 
 use bench::detection::worst_case;
-use bench::library;
 use shared::groups::SIZES;
-use shared::wiring::Wiring;
 use std::cmp::Ordering;
+use vcube::{Plant, Tally, Wiring};
 
 const PAGE: &str = include_str!("../../../../docs/COMMISSIONING.md");
+const WIRINGS: [(Wiring, &str); 2] = [(Wiring::Cube, "cube"), (Wiring::Ring, "ring")];
 
 /// The numbers of a row, by the words at its front.
 fn row(words: &str) -> Vec<u32> {
@@ -21,9 +21,11 @@ fn row(words: &str) -> Vec<u32> {
 
 /// The tests of a round in which nobody is dead, by a drive.
 fn tests(wiring: Wiring, n: usize) -> u32 {
-    let driven = library::drive(wiring, n, &mut shared::table::fresh(n));
-    assert_eq!((driven.number, driven.rounds), (0, 1));
-    driven.tests
+    let mut plant = Plant::new(wiring, n).expect("a size");
+    plant.drive().result().expect("a round");
+    let Tally { rounds, tests } = plant.tally;
+    assert_eq!(rounds, 1);
+    tests
 }
 
 /// The worst case, and the tests of one round more.
@@ -36,16 +38,15 @@ fn wait(wiring: Wiring, n: usize) -> (u32, u32) {
 fn tests_and_waits_of_both_wirings() {
     let sizes: Vec<usize> = row("boards").into_iter().map(|n| n as usize).collect();
     assert_eq!(sizes.len(), 12);
-    for wiring in Wiring::ALL {
+    for (wiring, name) in WIRINGS {
         let numbers = |of: fn(Wiring, usize) -> u32| -> Vec<u32> {
             sizes.iter().map(|n| of(wiring, *n)).collect()
         };
-        let named = |words| row(&format!("{words}, {}", wiring.text()));
-        assert_eq!(numbers(tests), named("tests a round"));
-        assert_eq!(numbers(worst_case), named("wait"));
+        assert_eq!(numbers(tests), row(&format!("tests a round, {name}")));
+        assert_eq!(numbers(worst_case), row(&format!("wait, {name}")));
     }
     // What the page says of them in words.
-    let of_rounds = |n| Wiring::ALL.map(|wiring| wait(wiring, n).1);
+    let of_rounds = |n| WIRINGS.map(|(wiring, _)| wait(wiring, n).1);
     assert_eq!([of_rounds(8), of_rounds(64)], [[96, 40], [3456, 2112]]);
 }
 

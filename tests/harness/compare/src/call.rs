@@ -1,6 +1,8 @@
 //! A call is data: its function, and for each argument bytes. Those of a number are the number, those of a pointer what stands there, items
 //! one behind the other. Numbers have their low byte first; those of `size_t` have eight bytes, the others as many as in C.
 
+use shared::random::Random;
+
 use crate::header::{self, Function};
 
 #[derive(Clone, Debug)]
@@ -17,13 +19,18 @@ pub struct Answer {
 }
 
 impl Call {
-    /// A call of the function with this name.
-    pub fn new<const N: usize>(name: &str, arguments: [Vec<u8>; N]) -> Call {
-        let function = header::function_named(name).expect("a function of the header");
-        assert_eq!(function.arguments.len(), N, "arguments of {name}");
+    /// A call of the function with this name, vcube_ left out. The places that it only writes, behind the other arguments, hold anything.
+    pub fn new<const N: usize>(name: &str, given: [Vec<u8>; N], random: &mut Random) -> Call {
+        let function = header::function_named(&format!("vcube_{name}"));
+        let function = function.expect("a function of the header");
+        let mut arguments = Vec::from(given);
+        for place in &function.arguments[N..] {
+            assert!(place.form.is_place(), "arguments of {name}");
+            arguments.push(random.bytes(place.items * place.form.width));
+        }
         Call {
             function,
-            arguments: arguments.into(),
+            arguments,
         }
     }
 }

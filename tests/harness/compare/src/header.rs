@@ -1,5 +1,5 @@
 //! The functions of include/vcube.h and the form of each argument, as the header declares them. All that is done with every call goes by
-//! these: record, printing, shrinking.
+//! these: record and printing.
 
 use std::sync::LazyLock;
 
@@ -17,6 +17,8 @@ pub struct Form {
 pub struct Argument {
     pub name: &'static str,
     pub form: Form,
+    /// How many stand at the pointer, where it is no list.
+    pub items: usize,
 }
 
 #[derive(Debug)]
@@ -43,6 +45,11 @@ impl Form {
     /// Whether the call may read it only.
     pub fn is_read_only(self) -> bool {
         self.letter.is_ascii_uppercase()
+    }
+
+    /// Whether it points at a number or a struct that the call writes.
+    pub fn is_place(self) -> bool {
+        matches!(self.letter, b's' | b'i' | b't')
     }
 
     /// Whether it is a list, whose length is handed over behind the pointer.
@@ -98,8 +105,14 @@ fn argument(text: &'static str) -> Option<Argument> {
         ("const struct vcube_totals", true) => b'T',
         _ => return None,
     };
+    let items = match kind {
+        "struct vcube_totals" => 5,
+        "struct vcube_figures" => 7,
+        _ => 1,
+    };
     Some(Argument {
         name: name.trim_start_matches('*'),
         form: Form::new(letter),
+        items,
     })
 }

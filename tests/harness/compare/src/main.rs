@@ -13,7 +13,7 @@ mod options;
 mod printed;
 mod record;
 mod replayer;
-mod shrink;
+mod smallest;
 
 use std::collections::BTreeMap;
 use std::fs::File;
@@ -29,9 +29,14 @@ use replayer::{Difference, Replayer, COPIES};
 fn main() -> ExitCode {
     match Options::read().and_then(|options| work(&options)) {
         // The record stands there.
-        Ok(text) if text.is_empty() => ExitCode::SUCCESS,
-        said => shared::options::end(said),
+        Ok(text) if text.is_empty() => {}
+        Ok(text) => println!("{text}"),
+        Err(text) => {
+            eprintln!("{text}");
+            return ExitCode::FAILURE;
+        }
     }
+    ExitCode::SUCCESS
 }
 
 fn work(options: &Options) -> Result<String, String> {
@@ -53,11 +58,7 @@ fn work(options: &Options) -> Result<String, String> {
 fn described(source: Source, number: u64) -> String {
     let call = source.call(number);
     let answer = answer::answer(&call);
-    format!(
-        "call {number}: {}{}",
-        printed::call(&call),
-        printed::answer(&call, &answer)
-    )
+    format!("call {number}: {}", printed::call(&call, &answer))
 }
 
 fn write(options: &Options, path: &Path) -> io::Result<String> {
@@ -89,7 +90,7 @@ fn alter(source: Source, programs: &[PathBuf]) -> Result<String, String> {
     ))
 }
 
-/// Lets the programs make the calls. The first that gives something else is made smaller and printed.
+/// Lets the programs make the calls. Where one gives something else, it and a small one are printed.
 fn compare(options: &Options, programs: &[PathBuf]) -> Result<String, String> {
     let started = programs.iter().map(|program| Replayer::start(program));
     let mut replayers = started.collect::<Result<Vec<_>, _>>()?;
@@ -114,23 +115,17 @@ fn compare(options: &Options, programs: &[PathBuf]) -> Result<String, String> {
     Ok(said)
 }
 
-/// The call that gives something else, made smaller.
+/// What was found, and a small call of that function that gives something else, if there is one.
 fn explained(options: &Options, program: &Path, found: &Difference) -> Result<String, String> {
-    let (first, last) = options.numbers.clone().into_inner();
+    let (source, (first, last)) = (options.source, options.numbers.clone().into_inner());
     let number = last.min(first + found.number - 1);
-    let (call, said) = shrink::shrink(program, options.source.call(number))?;
-    let (call, answer) = (
-        printed::call(&call),
-        printed::answer(&call, &answer::answer(&call)),
-    );
-    let again = format!(
-        "all of call {number}: tests/compare {} --only {number}",
-        options.source
-    );
+    let function = source.call(number).function.name;
+    let (number, said) =
+        smallest::smallest(program, source, function)?.unwrap_or((number, found.text.clone()));
+    let call = described(source, number);
     Ok(format!(
-        "{}\nMade smaller: {call}{answer}but\n{}\n{again}",
-        found.text,
-        said.as_ref().unwrap_or(&found.text)
+        "{}\nA small one: {call}but\n{said}\nit alone: tests/compare {source} --only {number}",
+        found.text
     ))
 }
 

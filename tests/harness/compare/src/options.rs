@@ -1,10 +1,11 @@
 //! The options of the command.
 
+use std::env;
+use std::ffi::OsString;
 use std::ops::RangeInclusive;
 use std::path::PathBuf;
 
 use crate::generate::Source;
-use shared::options::{Words, DEFAULT_SEED};
 
 const USAGE: &str =
     "usage: compare [--seed S] [--long] [--calls N | --only K] --record FILE | --with PROGRAM ..
@@ -13,6 +14,7 @@ const USAGE: &str =
        compare --answer FILE
        compare [--seed S] [--calls N | --only K] --boards [PROGRAM ..]";
 
+const DEFAULT_SEED: u64 = 1;
 const DEFAULT_CALLS: u64 = 900_000;
 
 pub enum Task {
@@ -39,51 +41,43 @@ pub struct Options {
 
 impl Options {
     pub fn read() -> Result<Options, String> {
-        let mut is_only = false;
+        Options::of(env::args_os().skip(1)).ok_or_else(|| USAGE.into())
+    }
+
+    /// None if the words are wrong.
+    fn of(mut words: impl Iterator<Item = OsString>) -> Option<Options> {
+        let number = |word: Option<OsString>| word?.to_str()?.parse().ok();
         let mut source = Source {
             seed: DEFAULT_SEED,
             is_long: false,
         };
         let (mut numbers, mut task) = (1..=DEFAULT_CALLS, Task::Print);
-        let mut words = Words::given(USAGE);
-        while let Some(word) = words.word() {
-            match (word.to_str(), &mut task) {
-                (Some("--seed"), _) => source.seed = words.value()?,
-                (Some("--long"), _) => source.is_long = true,
-                (Some("--calls"), _) => numbers = 1..=words.value()?,
-                (Some("--only"), _) => {
-                    let number = words.value()?;
-                    numbers = number..=number;
-                    is_only = true;
+        while let Some(word) = words.next() {
+            match word.to_str()? {
+                "--seed" => source.seed = number(words.next())?,
+                "--long" => source.is_long = true,
+                "--calls" => numbers = 1..=number(words.next())?,
+                "--only" => {
+                    let only = number(words.next())?;
+                    numbers = only..=only;
                 }
-                (Some("--record"), Task::Print) => task = Task::Record(words.value()?),
-                (Some("--answer"), Task::Print) => task = Task::Answer(words.value()?),
-                (Some("--with"), Task::Print) => task = Task::With(programs(&mut words)?),
-                (Some("--altered"), Task::Print) => task = Task::Altered(programs(&mut words)?),
-                (Some("--boards"), Task::Print) => task = Task::Boards(rest(&mut words)),
-                _ => return Err(words.usage()),
+                "--record" => task = Task::Record(words.next()?.into()),
+                "--answer" => task = Task::Answer(words.next()?.into()),
+                "--with" => task = Task::With(words.by_ref().map(PathBuf::from).collect()),
+                "--altered" => task = Task::Altered(words.by_ref().map(PathBuf::from).collect()),
+                "--boards" => task = Task::Boards(words.by_ref().map(PathBuf::from).collect()),
+                _ => return None,
             }
         }
-        if matches!(task, Task::Print) && !is_only {
-            return Err(words.usage());
-        }
-        Ok(Options {
+        let is_complete = match &task {
+            Task::Print => numbers.start() == numbers.end(),
+            Task::With(programs) | Task::Altered(programs) => !programs.is_empty(),
+            _ => true,
+        };
+        is_complete.then_some(Options {
             source,
             numbers,
             task,
         })
-    }
-}
-
-fn rest(words: &mut Words) -> Vec<PathBuf> {
-    words.rest().into_iter().map(PathBuf::from).collect()
-}
-
-/// The words that are left, of which there is at least one.
-fn programs(words: &mut Words) -> Result<Vec<PathBuf>, String> {
-    let programs = rest(words);
-    match programs.is_empty() {
-        true => Err(words.usage()),
-        false => Ok(programs),
     }
 }

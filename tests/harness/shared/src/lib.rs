@@ -1,11 +1,8 @@
-//! What the programs of the harness share: random numbers, sizes and groups, wirings, a view of a table's lines, schedules, grants, the slowest
-//! plants, and the words of a command.
+//! What the programs of the harness share: random numbers, sizes and groups, wirings, a view of a table's lines, schedules, and the slowest plants.
 
 #![forbid(unsafe_code)]
 
-pub mod grants;
 pub mod groups;
-pub mod options;
 pub mod random;
 pub mod schedule;
 pub mod slowest;

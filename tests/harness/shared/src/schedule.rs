@@ -11,11 +11,6 @@ pub const CRASH: u8 = 3;
 /// Kind and station.
 pub type Entry = [u8; 2];
 
-/// What stands for a kind in an input of the run program.
-pub fn letter(kind: u8) -> char {
-    [' ', 'T', 'L', 'C'][usize::from(kind)]
-}
-
 /// Once in how many entries a late reply or a crash comes; 0 is never.
 pub struct Style {
     late: usize,

@@ -3,10 +3,10 @@
 //! `turns`, and the boards that then take a turn of kind 1, in order. Those of the
 //! ring follow a rule.
 
-use crate::schedule::{letter, Entry, CRASH, TURN};
+use crate::schedule::{Entry, CRASH, TURN};
 use std::cmp::Reverse;
 
-pub const LINES: &str = include_str!("../../../../samples/slowest.txt");
+const LINES: &str = include_str!("../../../../samples/slowest.txt");
 
 #[derive(Clone)]
 pub struct Plant {
@@ -19,20 +19,15 @@ pub struct Plant {
 
 /// All plants of the cube, in ascending order of their sizes.
 pub fn plants() -> Result<Vec<Plant>, String> {
+    let plants: Option<Vec<Plant>> = LINES.lines().map(Plant::read).collect();
+    let plants = plants.filter(|plants| plants.iter().map(|plant| plant.n).eq(3..=64));
     let problem = "samples/slowest.txt does not have a line for each size from 3 to 64, in order";
-    read(LINES).ok_or_else(|| String::from(problem))
-}
-
-/// None if a line has another form, or if there is not one line of each size, in
-/// ascending order.
-pub fn read(lines: &str) -> Option<Vec<Plant>> {
-    let plants: Option<Vec<Plant>> = lines.lines().map(Plant::read).collect();
-    plants.filter(|plants| plants.iter().map(|plant| plant.n).eq(3..=64))
+    plants.ok_or_else(|| String::from(problem))
 }
 
 /// All plants of the ring, in ascending order of their sizes.
 pub fn ring_plants() -> impl Iterator<Item = Plant> {
-    (3..=64).map(|n| Plant::on_ring(n, &unlucky_order(n)))
+    (3..=64).map(Plant::on_ring)
 }
 
 /// The boards of a ring in the order in which they take their whole passes, where
@@ -53,9 +48,9 @@ impl Plant {
     /// Board 0 crashes; then half of n rounds, rounded down, in each of which the
     /// others take their whole passes in this order. A pass has one test, of n - 1
     /// two, as 0 does not reply, and then the turn that finishes it.
-    pub fn on_ring(n: usize, order: &[usize]) -> Plant {
+    fn on_ring(n: usize) -> Plant {
         let pass = |i: &usize| vec![[TURN, *i as u8]; if *i == n - 1 { 3 } else { 2 }];
-        let round: Vec<Entry> = order.iter().flat_map(pass).collect();
+        let round: Vec<Entry> = unlucky_order(n).iter().flat_map(pass).collect();
         let entries = [vec![[CRASH, 0]], round.repeat(n / 2)].concat();
         Plant {
             n,
@@ -72,15 +67,6 @@ impl Plant {
         let (n, dead) = (n.parse().ok()?, crashes.len());
         let entries = [crashes, turns].concat();
         (dead + 2 <= n).then_some(Plant { n, dead, entries })
-    }
-
-    /// The plant as an input of the run program.
-    pub fn input(&self) -> String {
-        let mut input = format!("{}\n", self.n);
-        for [kind, station] in &self.entries {
-            input += &format!("{} {station}\n", letter(*kind));
-        }
-        input
     }
 }
 

@@ -1,4 +1,4 @@
--- Each claim is a law of the file that it is taken from.
+-- The claims, each a law of proofs/.
 use Rattle.board.proofs.PackedLaws.{any-bytes}
 use Rattle.board.proofs.KeepsLaws.{calls-keep, fresh-is-one}
 use Rattle.board.proofs.claims.lines_and_rows.Goals as goal

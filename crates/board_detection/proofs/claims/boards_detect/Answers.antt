@@ -1,4 +1,4 @@
--- Each claim is a law of the file that it is taken from.
+-- The claims, each a law of proofs/.
 use Rattle.board_detection.proofs.BoardsDetect.{boards-detect-in-square, boards-detect-in-triangle, boards-detect-in-worst-case}
 use Rattle.board_detection.proofs.FreshBegin.{fresh-boards-begin}
 use Rattle.board_detection.proofs.claims.boards_detect.Goals as goal

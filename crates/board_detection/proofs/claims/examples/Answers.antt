@@ -1,4 +1,4 @@
--- Each claim is a law of the file that it is taken from.
+-- The claims, each a law of proofs/.
 use Rattle.board_detection.proofs.Computed.{four-boards, four-on-ring}
 use Rattle.board_detection.proofs.claims.examples.Goals as goal
 

@@ -1,4 +1,4 @@
--- Each claim is a law of the file that it is taken from.
+-- The claims, each a law of proofs/.
 use Rattle.cable.proofs.RunByCalls.{boards-do-the-run}
 use Rattle.cable.proofs.HoldLaws.{lines-are-held}
 use Rattle.cable.proofs.TableOf.{boards-make-a-table}

@@ -1,4 +1,4 @@
--- Each claim is a law of the file that it is taken from.
+-- The claims, each a law of proofs/.
 use Rattle.cable.proofs.TurnByLines.{same-turn}
 use Rattle.cable.proofs.OneEquation.{turn-is-by-lines}
 use Rattle.cable.proofs.ClosingByLines.{boards-close}

@@ -1,4 +1,4 @@
--- Each claim is a law of the file that it is taken from.
+-- The claims, each a law of proofs/.
 use Rattle.detection.proofs.Fates.{teller-is-named}
 use Rattle.detection.proofs.ExitRecord.{exits-recorded, mixed-exits-recorded}
 use Rattle.detection.proofs.claims.ceased.Goals as goal

@@ -1,4 +1,4 @@
--- Each claim is a law of the file that it is taken from.
+-- The claims, each a law of proofs/.
 use Rattle.detection.proofs.DetectionClaim.{detection-in-square, detection-in-triangle, detection-in-worst-case}
 use Rattle.detection.proofs.FreshStart.{fresh-accepted, fresh-premises}
 use Rattle.detection.proofs.claims.detection.Goals as goal

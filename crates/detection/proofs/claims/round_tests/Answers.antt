@@ -1,4 +1,4 @@
--- Each claim is a law of the file that it is taken from.
+-- The claims, each a law of proofs/.
 use Rattle.detection.proofs.BoardLaws.{exact-round-tests, exact-round-tests-after-latency}
 use Rattle.detection.proofs.claims.round_tests.Goals as goal
 

@@ -1,4 +1,4 @@
--- Each claim is a law of the file that it is taken from.
+-- The claims, each a law of proofs/.
 use Rattle.detection.proofs.SheetTests.{tests-are-the-sheets}
 use Rattle.detection.proofs.RoundTests.{tests-byte-counts, tests-within-due, slot-suffices}
 use Rattle.detection.proofs.claims.timing.Goals as goal

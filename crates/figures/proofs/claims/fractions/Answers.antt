@@ -1,4 +1,4 @@
--- Each claim is a law of the file that it is taken from.
+-- The claims, each a law of proofs/.
 use Rattle.figures.proofs.LowestTerms.{lowest_terms}
 use Rattle.figures.proofs.claims.fractions.Goals as goal
 

@@ -1,4 +1,4 @@
--- Each claim is a law of the file that it is taken from.
+-- The claims, each a law of proofs/.
 use Rattle.granter.proofs.Stops.{round-ends-in-square, kind-one-is-driven, drive-stops}
 use Rattle.granter.proofs.claims.drives.Goals as goal
 

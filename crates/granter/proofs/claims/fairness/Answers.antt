@@ -1,4 +1,4 @@
--- Each claim is a law of the file that it is taken from.
+-- The claims, each a law of proofs/.
 use Rattle.granter.proofs.Fair.{next-going-round, bounded-waiting}
 use Rattle.granter.proofs.claims.fairness.Goals as goal
 

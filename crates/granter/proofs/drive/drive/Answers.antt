@@ -15,5 +15,5 @@ returns-clause-outcome c =
     let a = c.args in
     let o = c.in-Ok.ensures in
     let z = ap number_of_result (sym o.check) in
-    let s = rw (o.same_wiring, o.same_size, o.same_last) at c.drive_on.ensures.stopped in
-    rw (← drive-made a.wiring a.n (state_with a.table.now a.tally) a.last _ z s, ← o.same_last, ← o.same_size, ← o.same_wiring) (search rules)
+    let s = rw (o.same_size, o.same_last) at c.drive_on.ensures.stopped in
+    rw (← drive-made a.wiring a.n (state_with a.table.now a.tally) a.last _ z s, ← o.same_last, ← o.same_size) (search rules)

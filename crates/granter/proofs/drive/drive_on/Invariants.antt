@@ -2,7 +2,6 @@
 use Rattle.std.proofs.Common.{◌≡◌, ◌<◌, ◌*◌, ◌-◌}
 use Rattle.std.specs.Prelude.{IfSome}
 use Rattle.table.specs.Lent.{IsSameLoan}
-use Rattle.table.specs.Wiring.{wiring_number}
 use Rattle.plant.specs.Entry.{state_with}
 use Rattle.granter.specs.Grant.{last_number}
 use Rattle.granter.specs.Drive.{stand_at, after_grants}
@@ -14,9 +13,9 @@ invariant-loop-wiring l = record {
   loan : IsSameLoan l.initial.table l.table;
   below : IfSome l.before (λ i. i.0 < l.initial.table.n);
   led : stand_at (state_with l.table.bytes.now l.held) (last_number l.before)
-      ≡ after_grants (wiring_number l.fn.wiring) l.initial.table.n
+      ≡ after_grants l.fn.wiring l.initial.table.n
       (stand_at (state_with l.initial.table.bytes.now l.fn.tally) (last_number l.fn.last)) l.grants;
-  driving : Driving (wiring_number l.fn.wiring) l.initial.table.n
+  driving : Driving l.fn.wiring l.initial.table.n
       (stand_at (state_with l.initial.table.bytes.now l.fn.tally) (last_number l.fn.last)) l.grants;
 }
 

@@ -1,4 +1,4 @@
--- Each claim is a law of the file that it is taken from.
+-- The claims, each a law of proofs/.
 use Rattle.in_step.proofs.Kept.{boards-in-step}
 use Rattle.in_step.proofs.OfRuns.{causes-in-step, wait-in-step}
 use Rattle.in_step.proofs.GetInForce.{entries-get-in-force}

@@ -2,12 +2,11 @@
 use Rattle.std.proofs.Common.{◌≡◌, true, not}
 use Rattle.lists.specs.Search.{every}
 use Rattle.table.specs.Rules.{not_live, finished_if_live}
-use Rattle.table.specs.Wiring.{wiring_number}
 use Rattle.mender.specs.Mended.{lines_mended}
 use Rattle.mender.proofs.lines.is_over.Given as goal
 
 abbrev pub invariant-loop-i : goal.invariant-loop-i
 invariant-loop-i l = record {
-  done : every (finished_if_live l.table.n (lines_mended (wiring_number l.wiring) l.table.n l.table.bytes.now)) l.i ≡ true;
-  seen : l.some ≡ not (every (not_live l.table.n (lines_mended (wiring_number l.wiring) l.table.n l.table.bytes.now)) l.i);
+  done : every (finished_if_live l.table.n (lines_mended l.wiring l.table.n l.table.bytes.now)) l.i ≡ true;
+  seen : l.some ≡ not (every (not_live l.table.n (lines_mended l.wiring l.table.n l.table.bytes.now)) l.i);
 }

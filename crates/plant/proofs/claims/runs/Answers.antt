@@ -1,4 +1,4 @@
--- Each claim is a law of the file that it is taken from.
+-- The claims, each a law of proofs/.
 use Rattle.plant.proofs.RulesKept.{empty-run, run-keeps-rules}
 use Rattle.plant.proofs.claims.runs.Goals as goal
 

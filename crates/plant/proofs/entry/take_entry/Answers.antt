@@ -1,7 +1,6 @@
 -- The entry is taken, so that no tally is full, and its outcome tells whether a test was made.
 use Rattle.std.proofs.Common.{◌≡◌, ◌+◌, ◌≤◌, ℕ, Bool, true, false, cond, refl, arith}
 use Rattle.std.specs.Int.{from_bool}
-use Rattle.table.specs.Wiring.{wiring_number}
 use Rattle.plant.specs.Entry.{state_with, entry_known, after, sheet_line}
 use Rattle.plant.proofs.RulesKept.{entry-facts}
 use Rattle.plant.proofs.RunLaws.{made-test}
@@ -44,7 +43,7 @@ unfolding after
 returns-clause-state_after c =
     let e = c.act-done.ensures in
     let f = c.close_round-over.ensures in
-    let m = made-test (wiring_number c.args.wired.wiring) c.args.table.now.n c.args.table.now.bytes.now (entry_known c.args.entry) in
+    let m = made-test c.args.wired.wiring c.args.table.now.n c.args.table.now.bytes.now (entry_known c.args.entry) in
     rw (c.from.ensures, c.from-2.ensures, bit-added c.close_round-over.result, bit-added)
     (rw (f.is_over, f.round_closed, e.same_loan.size, e.entry_acted, c.made_test.ensures, e.outcome_number, m))
 

@@ -1,7 +1,6 @@
 -- The rest of the run, from where it stands, gives what the whole gives, and the table obeys the rules.
 use Rattle.std.proofs.Common.{rules, ◌≡◌, ◌<◌, ◌≤◌, ◌/◌, length, refl, sym, ap, ◌∙◌, subst, arith, length-take, length-drop}
 use Rattle.lists.specs.Refusal.{number_of_result}
-use Rattle.table.specs.Wiring.{wiring_number}
 use Rattle.plant.specs.Entry.{Entry, State, state_with, entry_known, entry_refusal}
 use Rattle.plant.proofs.RulesKept.{accepted-kept}
 use Rattle.plant.proofs.RunLaws.{accepted-number, line-back, go-taken, go-stopped, go-done, start-facts}
@@ -19,7 +18,7 @@ returns-in-Err-clause-run c =
     let h : l.kind-index < length c.args.schedule.now / 2 = omega (arith, c.as_chunks.ensures.front_len) in
     let r = rw (c.read.ensures.same_size, c.read.ensures.same_bytes, i.loan.size, c.as_chunks.ensures.front) at c.in-Err.ensures.check in
     let s = state_with l.lent.bytes.now l.ran.tally in
-    rw (sym i.goes ∙ go-stopped (wiring_number c.args.wiring) c.args.table.now.n l.kind-index s l.sheet c.args.schedule.now _ h (sym r), i.count)
+    rw (sym i.goes ∙ go-stopped c.args.wiring c.args.table.now.n l.kind-index s l.sheet c.args.schedule.now _ h (sym r), i.count)
     (search rules)
 
 pub take_entry-ran-requires : goal.take_entry-ran-requires
@@ -37,7 +36,7 @@ take_entry-ran-requires c =
 
 pub loop-kind-preserved : goal.loop-kind-preserved
 loop-kind-preserved c =
-    let w = wiring_number c.args.wiring in
+    let w = c.args.wiring in
     let n = c.args.table.now.n in
     let l = c.loop-kind in
     let i = l.invariant in
@@ -68,5 +67,5 @@ returns-clause-run c =
     let i = l.invariant in
     let h : length c.args.schedule.now / 2 ≤ l.kind-index = omega (arith, c.as_chunks.ensures.front_len) in
     let s = state_with l.lent.bytes.now l.ran.tally in
-    rw (sym i.goes ∙ go-done (wiring_number c.args.wiring) c.args.table.now.n l.kind-index s l.sheet c.args.schedule.now h, i.going, i.count)
+    rw (sym i.goes ∙ go-done c.args.wiring c.args.table.now.n l.kind-index s l.sheet c.args.schedule.now h, i.going, i.count)
     (search rules)

@@ -11,7 +11,7 @@ returns-in-Err c =
     sym (run-refused a.wiring a.n (state_with a.table.now a.tally) a.schedule.now a.sheet.now _ (sym c.in-Err.ensures.check))
 
 pub go_on-requires : goal.go_on-requires
-go_on-requires c = rw (c.in-Ok.ensures.same_size, c.in-Ok.ensures.same_wiring) (ap number_of_result (sym c.in-Ok.ensures.check))
+go_on-requires c = rw (c.in-Ok.ensures.same_size) (ap number_of_result (sym c.in-Ok.ensures.check))
 
 pub returns : goal.returns
 returns c =
@@ -20,5 +20,4 @@ returns c =
     rw (
       run-goes a.wiring a.n (state_with a.table.now a.tally) a.schedule.now a.sheet.now z,
       ← c.in-Ok.ensures.same_size,
-      ← c.in-Ok.ensures.same_wiring,
     ) (search rules)

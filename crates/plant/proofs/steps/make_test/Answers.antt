@@ -3,7 +3,6 @@ use Rattle.std.proofs.Common.{◌∙◌, arith}
 use Rattle.table.proofs.Accepting.{accepted}
 use Rattle.table.proofs.WiringLaws.{size-end}
 use Rattle.table.proofs.CellLaws.{accepted-line}
-use Rattle.table.specs.Wiring.{wiring_number}
 use Rattle.station.proofs.WiredLaws.{station-apart}
 use Rattle.plant.specs.Turn.{after_test, testing}
 use Rattle.plant.proofs.steps.make_test.Goals as goal
@@ -21,7 +20,7 @@ test_outcome-outcome-requires c =
 
 pub count_test-requires : goal.count_test-requires
 count_test-requires c =
-    let w = wiring_number c.args.wired.wiring in
+    let w = c.args.wired.wiring in
     let a = c.args.table.now in
     let p = c.requires in
     let t = accepted w a.n a.bytes.now p.table_obeys in
@@ -37,7 +36,7 @@ count_test-requires c =
 
 pub apply_outcome-requires : goal.apply_outcome-requires
 apply_outcome-requires c =
-    let w = wiring_number c.args.wired.wiring in
+    let w = c.args.wired.wiring in
     let a = c.args in
     let p = c.requires in
     let n = c.count_test.ensures.same_loan.size in

@@ -3,7 +3,6 @@ use Rattle.std.proofs.Common.{refl, sym, ◌∙◌, arith}
 use borrow.Author.Tests.{lt-ltb, le-ltb}
 use Rattle.table.proofs.Accepting.{accepted}
 use Rattle.table.proofs.CellLaws.{accepted-line}
-use Rattle.table.specs.Wiring.{wiring_number}
 use Rattle.plant.specs.Turn.{makes_test, turn, turn_tested, turn_outcome}
 use Rattle.plant.proofs.NextTest.{next_test-low, test-station}
 use Rattle.plant.proofs.steps.take_turn.Goals as goal
@@ -26,7 +25,7 @@ returns-then-wired-m c =
 pub make_test-requires : goal.make_test-requires
 unfolding makes_test
 make_test-requires c =
-    let w = wiring_number c.args.wired.wiring in
+    let w = c.args.wired.wiring in
     let a = c.args.table.now in
     let i = c.args.i.0 in
     let p = c.requires in

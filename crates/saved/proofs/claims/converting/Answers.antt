@@ -1,4 +1,4 @@
--- Each claim is a law of the file that it is taken from.
+-- The claims, each a law of proofs/.
 use Rattle.saved.proofs.Edition1Laws.{rules-converted}
 use Rattle.saved.proofs.ConvertedFiles.{converter-takes, converted-loads}
 use Rattle.saved.proofs.OrderIsFree.{order_is_free}

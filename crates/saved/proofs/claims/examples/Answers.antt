@@ -1,4 +1,4 @@
--- Each claim is a law of the file that it is taken from.
+-- The claims, each a law of proofs/.
 use Rattle.saved.proofs.Examples.{two-boards, examples-hold, conversions, old-examples-hold}
 use Rattle.saved.proofs.claims.examples.Goals as goal
 

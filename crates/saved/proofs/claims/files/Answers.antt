@@ -1,4 +1,4 @@
--- Each claim is a law of the file that it is taken from.
+-- The claims, each a law of proofs/.
 use Rattle.saved.proofs.FileLaws.{fields-of-bytes, bytes-of-fields}
 use Rattle.saved.proofs.claims.files.Goals as goal
 

@@ -1,4 +1,4 @@
--- Each claim is a law of the file that it is taken from.
+-- The claims, each a law of proofs/.
 use Rattle.saved.proofs.Length.{saved-length}
 use Rattle.saved.proofs.Restored.{load-restores}
 use Rattle.saved.proofs.OneForm.{one-form}

@@ -1,4 +1,4 @@
--- Each claim is a law of the file that it is taken from.
+-- The claims, each a law of proofs/.
 use Rattle.slots.proofs.AssignmentLaws.{own-unsuspected, somebody-first, before-up-to, nothing-left-over, due-entries-are-marked}
 use Rattle.slots.proofs.claims.assignments.Goals as goal
 

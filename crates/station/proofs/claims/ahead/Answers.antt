@@ -1,4 +1,4 @@
--- Each claim is a law of the file that it is taken from.
+-- The claims, each a law of proofs/.
 use Rattle.station.proofs.AheadLaws.{named-stands-before, due-if-nobody-before, before-by-digits, before-in-block, none-due-in-block}
 use Rattle.station.proofs.claims.ahead.Goals as goal
 

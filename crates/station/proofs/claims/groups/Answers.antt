@@ -1,4 +1,4 @@
--- Each claim is a law of the file that it is taken from.
+-- The claims, each a law of proofs/.
 use Rattle.station.proofs.GroupLaws.{not-in-own, in-one-group, nested-groups, nested-groups-remaining}
 use Rattle.station.proofs.claims.groups.Goals as goal
 

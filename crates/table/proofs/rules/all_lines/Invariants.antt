@@ -1,9 +1,8 @@
 -- The lines passed so far all pass the test.
 use Rattle.std.proofs.Common.{◌≡◌, true}
 use Rattle.lists.specs.Search.{every}
-use Rattle.table.specs.Wiring.{wiring_number}
-use Rattle.table.specs.Rules.{wired_line_rules}
+use Rattle.table.specs.Rules.{line_rules}
 use Rattle.table.proofs.rules.all_lines.Given as goal
 
 abbrev pub invariant-loop-i : goal.invariant-loop-i
-invariant-loop-i l = every (wired_line_rules (wiring_number l.wiring) l.table.n l.table.bytes.now) l.i ≡ true
+invariant-loop-i l = every (line_rules l.wiring l.table.n l.table.bytes.now) l.i ≡ true

@@ -1,4 +1,4 @@
--- The claim is proved in proofs/Fitting.antt.
+-- The claims, each a law of proofs/Fitting.antt.
 use Rattle.lists.specs.Refusal.{refusal_with}
 use Rattle.table.specs.Status.{status_of}
 use Rattle.station.specs.Outcome.{outcome_with}

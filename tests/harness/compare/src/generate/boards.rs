@@ -6,7 +6,7 @@ use shared::table::{line_length, live_stations, unfinished_stations, HEAD, STATU
 use shared::wiring::Wiring;
 use simulator::{board_next, Given};
 
-use super::{lines, numbers, place, tables, Size};
+use super::{lines, numbers, tables, Size};
 use crate::call::{size, Call};
 
 /// Bits of a byte.
@@ -27,48 +27,38 @@ pub fn call(wiring: Wiring, n: Size, random: &mut Random) -> Call {
     let other = (own + random.between(1, n - 1)) % n;
     let [wiring, asked, own_given, line] = arguments(wiring, own, n, line, random);
     match random.below(21) {
-        0 | 20 => Call::new("vcube_board_fresh", [wiring, asked, own_given, line]),
-        1 | 2 => Call::new(
-            "vcube_board_next",
-            [wiring, asked, own_given, line, place(random)],
-        ),
+        0 | 20 => Call::new("board_fresh", [wiring, asked, own_given, line], random),
+        1 | 2 => Call::new("board_next", [wiring, asked, own_given, line], random),
         3 | 4 => {
             let length = packed_length(n, random);
-            Call::new(
-                "vcube_board_row",
-                [wiring, asked, own_given, line, random.bytes(length)],
-            )
+            let row = random.bytes(length);
+            Call::new("board_row", [wiring, asked, own_given, line, row], random)
         }
         5..=10 => {
             let reply = heard(own, tested.min(n - 1), n, &table, random);
-            Call::new(
-                "vcube_board_replied",
-                [wiring, asked, own_given, line, reply, place(random)],
-            )
+            let given = [wiring, asked, own_given, line, reply];
+            Call::new("board_replied", given, random)
         }
         11 | 12 => Call::new(
-            "vcube_board_not_replied",
-            [wiring, asked, own_given, line, place(random)],
+            "board_not_replied",
+            [wiring, asked, own_given, line],
+            random,
         ),
-        13 | 14 => Call::new(
-            "vcube_board_told",
-            [
-                wiring,
-                asked,
-                own_given,
-                line,
-                sender(own, other, n, random),
-            ],
-        ),
+        13 | 14 => {
+            let by = sender(own, other, n, random);
+            Call::new("board_told", [wiring, asked, own_given, line, by], random)
+        }
         15..=17 => {
             let row = heard(own, other, n, &table, random);
             let from = sender(own, other, n, random);
-            Call::new(
-                "vcube_board_exchanged",
-                [wiring, asked, own_given, line, from, row],
-            )
+            let given = [wiring, asked, own_given, line, from, row];
+            Call::new("board_exchanged", given, random)
         }
-        _ => Call::new("vcube_board_round_closed", [wiring, asked, own_given, line]),
+        _ => Call::new(
+            "board_round_closed",
+            [wiring, asked, own_given, line],
+            random,
+        ),
     }
 }
 
@@ -166,17 +156,9 @@ fn sender(own: usize, other: usize, n: Size, random: &mut Random) -> Vec<u8> {
 /// The length of a packed row: mostly the right one.
 fn packed_length(n: Size, random: &mut Random) -> usize {
     let right = n.div_ceil(BITS);
-    match random.below(60) {
-        0 => right - 1,
-        1 => right + 1,
-        2 => n / BITS,
-        3 => n / BITS + 1,
-        // For 64 boards.
-        4 => BITS,
-        // A byte for each board.
-        5 => n,
-        _ => numbers::length(right, random),
-    }
+    // The last two: for 64 boards, and a byte for each board.
+    let wrong = [right - 1, right + 1, n / BITS, n / BITS + 1, BITS, n];
+    numbers::length_or(right, &wrong, random)
 }
 
 /// The packed row of a station of the table, mostly with some bits changed, or any bytes.

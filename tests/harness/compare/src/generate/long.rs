@@ -7,7 +7,7 @@ use shared::wiring::Wiring;
 use simulator::{SCHEDULE_LENGTH, WORDS_LENGTH};
 
 use super::files::{self, saved_length};
-use super::{place, schedules, texts};
+use super::{schedules, texts};
 use crate::call::{size, word, Call};
 
 pub fn call(random: &mut Random) -> Call {
@@ -37,20 +37,8 @@ fn run(random: &mut Random) -> Call {
         false => random.below(9) as u32,
     };
     let (wiring, tests) = (size(wiring.number()), word(random.below(9) as u32));
-    let (rounds, taken) = (word(rounds), place(random));
-    Call::new(
-        "vcube_run",
-        [
-            wiring,
-            size(n),
-            table,
-            rounds,
-            tests,
-            schedule,
-            sheet,
-            taken,
-        ],
-    )
+    let given = [wiring, size(n), table, word(rounds), tests, schedule, sheet];
+    Call::new("run", given, random)
 }
 
 /// A file of up to 70,000 bytes.
@@ -62,14 +50,10 @@ fn of_file(random: &mut Random) -> Call {
     let file = files::many_fields(n, random);
     let n = n.min(64);
     match random.below(4) {
-        0 => {
-            let table = vec![0xEE; table_length(n)];
-            let [rounds, tests] = [7, 7].map(word);
-            Call::new("vcube_load", [file, table, place(random), rounds, tests])
-        }
-        1 => Call::new("vcube_saved_size", [file, place(random)]),
-        2 => Call::new("vcube_convert", [file, vec![0xEE; saved_length(n)]]),
-        _ => Call::new("vcube_converted_length", [file, place(random)]),
+        0 => Call::new("load", [file, vec![0xEE; table_length(n)]], random),
+        1 => Call::new("saved_size", [file], random),
+        2 => Call::new("convert", [file, vec![0xEE; saved_length(n)]], random),
+        _ => Call::new("converted_length", [file], random),
     }
 }
 

@@ -1,5 +1,4 @@
-//! Random calls. Each is first made so that it is accepted; then, now and then, one or several of its parts are made wrong. The places of
-//! figures that a call only writes hold anything before it.
+//! Random calls. Each is first made so that it is accepted; then, now and then, one or several of its parts are made wrong.
 
 mod boards;
 mod files;
@@ -21,8 +20,6 @@ use shared::random::Random;
 use shared::wiring::Wiring;
 
 use crate::call::Call;
-
-pub use files::saved_length;
 
 /// The size of the plant that a call is made for.
 type Size = usize;
@@ -142,9 +139,4 @@ fn mostly_cube(random: &mut Random) -> Wiring {
         true => Wiring::Ring,
         false => Wiring::Cube,
     }
-}
-
-/// A place for a `size_t` that a call writes.
-fn place(random: &mut Random) -> Vec<u8> {
-    random.bytes(8)
 }

@@ -91,6 +91,12 @@ pub fn length(right: usize, random: &mut Random) -> usize {
     }
 }
 
+/// Mostly the right length, now and then one of these.
+pub fn length_or(right: usize, wrong: &[usize], random: &mut Random) -> usize {
+    let drawn = wrong.get(random.below(50));
+    drawn.copied().unwrap_or_else(|| length(right, random))
+}
+
 /// Mostly a station of the plant.
 pub fn station(size: Size, random: &mut Random) -> usize {
     let right = random.below(size);

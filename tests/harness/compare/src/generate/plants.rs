@@ -5,7 +5,7 @@ use shared::random::Random;
 use shared::table::{line_length, live_stations, table_length, unfinished_stations, HEAD};
 use shared::wiring::Wiring;
 
-use super::{lines, mostly_cube, numbers, place, schedules, tables, Size};
+use super::{lines, mostly_cube, numbers, schedules, tables, Size};
 use crate::call::{size, word, Call};
 
 /// The bytes of a change in a report.
@@ -22,10 +22,8 @@ pub fn fresh_table(wiring: Wiring, n: Size, random: &mut Random) -> Call {
     let given = numbers::given_size(n, random);
     let length = numbers::table_length(given, n, random);
     let wiring = wiring_number(wiring, random);
-    Call::new(
-        "vcube_fresh_table",
-        [wiring, size(given), random.bytes(length)],
-    )
+    let table = random.bytes(length);
+    Call::new("fresh_table", [wiring, size(given), table], random)
 }
 
 pub fn group_list(n: Size, random: &mut Random) -> Call {
@@ -36,40 +34,27 @@ pub fn group_list(n: Size, random: &mut Random) -> Call {
         false => numbers::station(n, random),
     };
     let right = group_length(n, station, level);
-    let length = match random.below(40) {
-        0 => right + 1,
-        // With the absent numbers.
-        1 => 1 << (level - 1),
-        _ => numbers::length(right, random),
-    };
+    // The second: with the absent numbers.
+    let length = numbers::length_or(right, &[right + 1, 1 << (level - 1)], random);
     let level = numbers::given_level(level, n, random);
-    let n = numbers::given_size(n, random);
-    Call::new(
-        "vcube_group_list",
-        [size(n), size(station), size(level), random.bytes(length)],
-    )
+    let given = [numbers::given_size(n, random), station, level].map(size);
+    let ([n, station, level], list) = (given, random.bytes(length));
+    Call::new("group_list", [n, station, level, list], random)
 }
 
 pub fn assignment(n: Size, random: &mut Random) -> Call {
     let (given, table) = tables::given(mostly_cube(random), n, random);
     let station = station_in(&table, n, random);
     let right = assignment_length(n);
-    let length = match random.below(60) {
-        0 => 0,
-        1 => right - 1,
-        2 => right + 1,
-        // One byte for each entry.
-        3 => n - 1,
-        // An entry for each station.
-        4 => 2 * n,
-        // With the absent numbers.
-        5 => assignment_length(distances(n)),
-        _ => numbers::length(right, random),
-    };
+    // The last three: one byte for each entry, an entry for each station, with the absent numbers.
+    let absent = assignment_length(distances(n));
+    let wrong = [0, right - 1, right + 1, n - 1, 2 * n, absent];
+    let length = numbers::length_or(right, &wrong, random);
     let list = random.bytes(length);
     Call::new(
-        "vcube_assignment",
-        [size(given), table, size(station), list, place(random)],
+        "assignment",
+        [size(given), table, size(station), list],
+        random,
     )
 }
 
@@ -88,43 +73,20 @@ pub fn slot(n: Size, random: &mut Random) -> Call {
         station if random.once_in(40) => numbers::alias(station, random),
         station => station,
     };
-    Call::new(
-        "vcube_slot",
-        [
-            size(given),
-            table,
-            size(station),
-            place(random),
-            place(random),
-        ],
-    )
+    Call::new("slot", [size(given), table, size(station)], random)
 }
 
 pub fn wait(wiring: Wiring, n: Size, random: &mut Random) -> Call {
     let (given, table) = tables::given(wiring, n, random);
     let wiring = wiring_number(wiring, random);
-    let [rounds, turns, known, crash] = [0; 4].map(|_| place(random));
-    Call::new(
-        "vcube_wait",
-        [wiring, size(given), table, rounds, turns, known, crash],
-    )
+    Call::new("wait", [wiring, size(given), table], random)
 }
 
 pub fn row(wiring: Wiring, n: Size, random: &mut Random) -> Call {
     let (given, table) = tables::given(wiring, n, random);
     let wiring = wiring_number(wiring, random);
     let station = size(numbers::station(n, random));
-    Call::new(
-        "vcube_row",
-        [
-            wiring,
-            size(given),
-            table,
-            station,
-            place(random),
-            place(random),
-        ],
-    )
+    Call::new("row", [wiring, size(given), table, station], random)
 }
 
 pub fn run(wiring: Wiring, n: Size, random: &mut Random) -> Call {
@@ -134,29 +96,15 @@ pub fn run(wiring: Wiring, n: Size, random: &mut Random) -> Call {
     let length = numbers::length(2 * schedule.len(), random);
     let sheet = random.bytes(length);
     let wiring = wiring_number(wiring, random);
-    let (rounds, tests) = (word(rounds), word(tests));
-    Call::new(
-        "vcube_run",
-        [
-            wiring,
-            size(given),
-            table,
-            rounds,
-            tests,
-            schedule,
-            sheet,
-            place(random),
-        ],
-    )
+    let (n, rounds, tests) = (size(given), word(rounds), word(tests));
+    let given = [wiring, n, table, rounds, tests, schedule, sheet];
+    Call::new("run", given, random)
 }
 
 pub fn grant(wiring: Wiring, n: Size, random: &mut Random) -> Call {
     let (given, table, last) = granted(wiring, n, random);
     let wiring = wiring_number(wiring, random);
-    Call::new(
-        "vcube_grant",
-        [wiring, size(given), table, size(last), place(random)],
-    )
+    Call::new("grant", [wiring, size(given), table, size(last)], random)
 }
 
 pub fn drive(wiring: Wiring, n: Size, random: &mut Random) -> Call {
@@ -167,19 +115,9 @@ pub fn drive(wiring: Wiring, n: Size, random: &mut Random) -> Call {
         false => numbers::tally(2 * n, random),
     };
     let wiring = wiring_number(wiring, random);
-    let (rounds, tests) = (word(rounds), word(tests));
-    Call::new(
-        "vcube_drive",
-        [
-            wiring,
-            size(given),
-            table,
-            rounds,
-            tests,
-            size(last),
-            place(random),
-        ],
-    )
+    let (n, rounds, tests) = (size(given), word(rounds), word(tests));
+    let given = [wiring, n, table, rounds, tests, size(last)];
+    Call::new("drive", given, random)
 }
 
 /// The size, the table and the last granted number.
@@ -240,10 +178,7 @@ pub fn doubt_lamp(wiring: Wiring, n: Size, random: &mut Random) -> Call {
     let length = numbers::table_length(given, n, random);
     tables::resize(&mut table, length, random);
     let wiring = wiring_number(wiring, random);
-    Call::new(
-        "vcube_doubt_lamp",
-        [wiring, size(given), table, place(random), place(random)],
-    )
+    Call::new("doubt_lamp", [wiring, size(given), table], random)
 }
 
 /// One live station, often the first or the last, suspects another live one, if there are two.
@@ -299,8 +234,5 @@ pub fn mend(wiring: Wiring, n: Size, random: &mut Random) -> Call {
     };
     let report = random.bytes(length);
     let wiring = wiring_number(wiring, random);
-    Call::new(
-        "vcube_mend",
-        [wiring, size(given), table, report, place(random)],
-    )
+    Call::new("mend", [wiring, size(given), table, report], random)
 }

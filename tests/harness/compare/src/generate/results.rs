@@ -9,41 +9,19 @@ use crate::call::{members, results, Call};
 /// The most results that are taken.
 pub const MOST_RESULTS: usize = 4_096;
 
-// The bytes of struct vcube_totals and struct vcube_figures.
-const TOTALS: usize = 5 * 8;
-const FIGURES: usize = 7 * 8;
-
 /// From so many results on their number does not fit into 16 bits.
 const PAST_16_BITS: usize = 1 << 16;
 
 pub fn call(random: &mut Random) -> Call {
     match random.below(5) {
-        0 => Call::new(
-            "vcube_figures_of_list",
-            [one_list(random), random.bytes(FIGURES)],
-        ),
-        1 => {
-            let [first, second] = two_lists(random);
-            Call::new(
-                "vcube_figures_of_two_lists",
-                [first, second, random.bytes(FIGURES)],
-            )
-        }
-        2 => Call::new(
-            "vcube_totals_of_list",
-            [one_list(random), random.bytes(TOTALS)],
-        ),
+        0 => Call::new("figures_of_list", [one_list(random)], random),
+        1 => Call::new("figures_of_two_lists", two_lists(random), random),
+        2 => Call::new("totals_of_list", [one_list(random)], random),
         3 => {
-            let [first, second] = totals::two(random).map(|totals| members(&totals));
-            Call::new("vcube_join_totals", [first, second, random.bytes(TOTALS)])
+            let both = totals::two(random).map(|totals| members(&totals));
+            Call::new("join_totals", both, random)
         }
-        _ => {
-            let totals = totals::one(random);
-            Call::new(
-                "vcube_figures_of_totals",
-                [members(&totals), random.bytes(FIGURES)],
-            )
-        }
+        _ => Call::new("figures_of_totals", [members(&totals::one(random))], random),
     }
 }
 

@@ -5,7 +5,7 @@ use shared::random::Random;
 use shared::table::table_length;
 
 use super::files::{former_saved_length, former_table_length, saved_length, FIELD_HEAD};
-use super::{files, mostly_cube, numbers, place, tables, Size};
+use super::{files, mostly_cube, numbers, tables, Size};
 use crate::call::{size, word, Call};
 
 pub fn save(n: Size, random: &mut Random) -> Call {
@@ -14,70 +14,52 @@ pub fn save(n: Size, random: &mut Random) -> Call {
     let length = buffer_length(asked, random);
     let (rounds, tests) = files::tally(random);
     let saved = random.bytes(length);
-    Call::new(
-        "vcube_save",
-        [size(given), table, word(rounds), word(tests), saved],
-    )
+    let given = [size(given), table, word(rounds), word(tests), saved];
+    Call::new("save", given, random)
 }
 
 /// The length of the buffer for a saved plant: mostly the right one.
 fn buffer_length(n: Size, random: &mut Random) -> usize {
     let right = saved_length(n);
-    match random.below(60) {
-        0 => right - 1,
-        1 => right + 1,
-        2 => table_length(n),
-        // Without the heads of the lines.
-        3 => right - FIELD_HEAD * n,
-        // With the absent numbers.
-        4 => saved_length(distances(n)),
-        5 => saved_length(n + 1),
-        6 => 0,
-        7 => former_saved_length(n),
-        // Without the opening.
-        8 => right - FIELD_HEAD - 1,
-        _ => numbers::length(right, random),
-    }
+    let other_forms = [table_length(n), former_saved_length(n), saved_length(n + 1)];
+    // Without the heads of the lines, with the absent numbers, without the opening.
+    let other_fields = [
+        right - FIELD_HEAD * n,
+        saved_length(distances(n)),
+        right - FIELD_HEAD - 1,
+    ];
+    let wrong = [&[right - 1, right + 1, 0][..], &other_forms, &other_fields];
+    numbers::length_or(right, &wrong.concat(), random)
 }
 
 pub fn load(n: Size, random: &mut Random) -> Call {
     let (n, file) = files::saved(n, random);
     let length = table_buffer(n, random);
-    let (rounds, tests) = (random.bytes(4), random.bytes(4));
-    Call::new(
-        "vcube_load",
-        [file, random.bytes(length), place(random), rounds, tests],
-    )
+    Call::new("load", [file, random.bytes(length)], random)
 }
 
 /// The length of the table buffer: mostly the right one.
 fn table_buffer(n: Size, random: &mut Random) -> usize {
     let right = table_length(n);
-    match random.below(50) {
-        0 => right - 1,
-        1 => right + 1,
-        2 => saved_length(n),
-        3 => table_length(random.between(*SIZES.start(), *SIZES.end())),
-        // For the longest table.
-        4 => table_length(*SIZES.end()),
-        5 => 0,
-        6 => former_table_length(n),
-        _ => numbers::length(right, random),
-    }
+    let other = table_length(random.between(*SIZES.start(), *SIZES.end()));
+    let longest = table_length(*SIZES.end());
+    let other_forms = [saved_length(n), former_table_length(n)];
+    let wrong = [&[right - 1, right + 1, 0, other, longest][..], &other_forms];
+    numbers::length_or(right, &wrong.concat(), random)
 }
 
 pub fn saved_size(n: Size, random: &mut Random) -> Call {
     let (_, file) = files::saved(n, random);
-    Call::new("vcube_saved_size", [file, place(random)])
+    Call::new("saved_size", [file], random)
 }
 
 pub fn convert(n: Size, random: &mut Random) -> Call {
     let (n, old) = files::stored(n, random);
     let length = buffer_length(n, random);
-    Call::new("vcube_convert", [old, random.bytes(length)])
+    Call::new("convert", [old, random.bytes(length)], random)
 }
 
 pub fn converted_length(n: Size, random: &mut Random) -> Call {
     let (_, old) = files::stored(n, random);
-    Call::new("vcube_converted_length", [old, place(random)])
+    Call::new("converted_length", [old], random)
 }

@@ -3,14 +3,14 @@
 use shared::random::Random;
 use simulator::{MOST_ENTRIES, SCHEDULE_LENGTH, WORDS_LENGTH};
 
-use super::{numbers, place};
+use super::numbers;
 use crate::call::{size, Call};
 
 pub fn call(random: &mut Random) -> Call {
     match random.below(8) {
-        0 => words("vcube_refusal_words", 25, random),
-        1 => words("vcube_status_words", 3, random),
-        2 => words("vcube_outcome_words", 5, random),
+        0 => words("refusal_words", 25, random),
+        1 => words("status_words", 3, random),
+        2 => words("outcome_words", 5, random),
         _ => read_input(random),
     }
 }
@@ -18,7 +18,7 @@ pub fn call(random: &mut Random) -> Call {
 fn words(function: &str, last: usize, random: &mut Random) -> Call {
     let length = length(WORDS_LENGTH, random);
     let worded = numbers::worded(last, random);
-    Call::new(function, [size(worded), random.bytes(length)])
+    Call::new(function, [size(worded), random.bytes(length)], random)
 }
 
 fn read_input(random: &mut Random) -> Call {
@@ -30,21 +30,11 @@ fn read_input(random: &mut Random) -> Call {
 /// The reading of this input into a schedule and words of these lengths.
 pub fn reading(input: Vec<u8>, schedule: usize, words: usize, random: &mut Random) -> Call {
     let [schedule, words] = [schedule, words].map(|length| random.bytes(length));
-    let [n, entries, line] = [0; 3].map(|_| place(random));
-    Call::new(
-        "vcube_read_input",
-        [input, schedule, words, n, entries, line],
-    )
+    Call::new("read_input", [input, schedule, words], random)
 }
 
-/// Mostly the right length, now and then one less or one more.
 fn length(right: usize, random: &mut Random) -> usize {
-    match random.below(24) {
-        0 => right - 1,
-        1 => right + 1,
-        2 => random.pick(&[0, 2 * right]),
-        _ => numbers::length(right, random),
-    }
+    numbers::length_or(right, &[right - 1, right + 1, 0, 2 * right], random)
 }
 
 /// Bytes that are wrong in most places.

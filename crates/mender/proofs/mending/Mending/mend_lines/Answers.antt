@@ -1,13 +1,12 @@
 -- The loops go from place to place.
 use Rattle.std.proofs.Common.{◌≡◌, ◌+◌, sym, ap, ◌∙◌, arith}
 use Rattle.table.specs.Table.{head, line_start}
-use Rattle.table.specs.Wiring.{wiring_number}
 use Rattle.mender.proofs.Progress.{reached-start, reached-at, reached-inside, reached-few, reached-next}
 use Rattle.mender.proofs.Progress.{head-put, row-put, row-skip, line-next, all-done}
 use Rattle.mender.proofs.mending.Mending.mend_lines.Goals as goal
 
 pub loop-i-init : goal.loop-i-init
-loop-i-init c = reached-start (wiring_number c.args.wiring) c.args.over c.args.self.now c.requires
+loop-i-init c = reached-start c.args.wiring c.args.over c.args.self.now c.requires
 
 pub put-requires-clause-inside : goal.put-requires-clause-inside
 put-requires-clause-inside c =
