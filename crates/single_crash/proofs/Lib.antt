@@ -11,6 +11,7 @@ pub mod CubeCrash
 pub mod CubeWhole
 pub mod CubeKnown
 pub mod CubeOrder
+pub mod CubeOpening
 pub mod CubeSlowest
 pub mod Sweeps
 pub mod SweepLaw
