@@ -12,6 +12,7 @@ pub mod CubeWhole
 pub mod CubeKnown
 pub mod CubeOrder
 pub mod CubeOpening
+pub mod CubeLate
 pub mod CubeSlowest
 pub mod Sweeps
 pub mod SweepLaw
