@@ -1,7 +1,7 @@
 -- On the cube, the slowest plant in the round after the crash of board 1: board 4 does not suspect it before its third turn. Board 0, which is beside
 -- board 1 and would tell it, tests at distance 3 when the others test at distance 4.
 -- Assumes nothing.
-use mathlib.Core.Path.{◌≡◌, refl, sym, ap, ◌∙◌}
+use mathlib.Core.Path.{◌≡◌, refl, sym, ap, subst, ◌∙◌}
 use mathlib.Core.Logic.{◌≢◌, by_cases}
 use mathlib.Core.Bool.{Bool, true, false, cond, not}
 use mathlib.Core.List.{List}
@@ -26,13 +26,16 @@ use Rattle.station.specs.Wired.{wired_station, next_after}
 use Rattle.station.proofs.WiredLaws.{cube-station}
 use Rattle.plant.specs.Turn.{kind_turn, next_test, makes_test, turn}
 use Rattle.plant.proofs.NextTest.{test-station}
-use Rattle.granter.specs.Drive.{Stand, granted_at}
+use Rattle.granter.specs.Grant.{waits}
+use Rattle.granter.specs.Fairness.{stations_before}
+use Rattle.granter.specs.Drive.{Stand, granted_at, grant_turn}
 use Rattle.detection.proofs.TestsDue.{row-unsuspected}
 use Rattle.detection.proofs.TurnEffect.{Plain, Row, Tested}
 use Rattle.detection.proofs.RoundKnowledge.{all-finished}
 use Rattle.witness.proofs.Moves.{finish-bytes, test-bytes}
 use Rattle.single_crash.specs.Sweeps.{turns_made}
-use Rattle.single_crash.proofs.Running.{Crew, Running, chosen, is_live, going, kept, heads, moved}
+use Rattle.single_crash.proofs.Sweeps.{place-below}
+use Rattle.single_crash.proofs.Running.{Crew, Running, chosen, is_live, going, kept, heads, moved, goes_on}
 use Rattle.single_crash.proofs.Crashing.{all_but}
 use Rattle.single_crash.proofs.Passes.{turns_left, left-turn}
 use Rattle.single_crash.proofs.OnRing.{left_of}
@@ -41,6 +44,7 @@ use Rattle.single_crash.proofs.CubeDue.{Few, power-due, second-due}
 use Rattle.single_crash.proofs.CubePace.{Cubic, few-but, Paced, pace-test, due-now}
 use Rattle.single_crash.proofs.CubeWays.{turned}
 use Rattle.single_crash.proofs.CubeRun.{OthersLive, cube-crew, fewest-turns, paced-turn, granted-other}
+use Rattle.single_crash.proofs.CubeOrder.{place-last}
 use Rattle.single_crash.proofs.CubeStages.{but-others, but-dead, but-apart}
 
 -- all boards but board 1 are live
@@ -316,3 +320,88 @@ module _ (n d : ℕ) (c : Cubic n d) (three : 3 ≤ d) (eight : 8 ≤ n) (p : St
       heard-low (o.near z hz q was) (2 ^ made) (small-test low) (tested-at (2 ^ made) (low-test low e)) (test-station wiring_cube n t g e
       o.running.plain.lines.0 below) x hx a (heard-of x hx one e))
       (λ e. o.near z hz q was x hx a (sym (same-row x e) ∙ one))
+
+  -- board 4 is not near in that sense
+  far-four : ¬ (Low 4)
+  far-four l = omega arith
+
+  -- board 4 hears of it from nobody before its third turn
+  unheard : turns_made n t' 4 < 3 → makes_test wiring_cube n t g ≡ true → Heard n t g y 4 1 → ⊥
+  unheard few e (had one) = omega (arith, one, o.unaware (omega (arith, more-turns 4 (omega arith), few)))
+  unheard few e (found k z) =
+      let low : made < 2 = omega (arith, turns-own 4 (sym k), few) in
+      far-four (subst Low (sym k) (low-found (2 ^ made) (small-test low) (sym (tested-at (2 ^ made) (low-test low e)) ∙ sym z)))
+  unheard few e (told_by_tested k one) =
+      let low : made < 2 = omega (arith, turns-own 4 (sym k), few) in
+      let at = tested-at (2 ^ made) (low-test low e) in
+      let hy = test-station wiring_cube n t g e o.running.plain.lines.0 below in
+      let aware : Low (station_at g (2 ^ made)) = rw at at (o.near g below apart low y hy (not-dead y one) one) in
+      far-four (subst Low (sym k) (low-back (2 ^ made) (small-test low) aware))
+  unheard few e (told_by_tester k one) =
+      by_cases (dec_lt made 2)
+      (λ low.
+      let at = tested-at (2 ^ made) (low-test low e) in
+      far-four (subst Low (sym (k ∙ at)) (low-there (2 ^ made) (small-test low) (o.near g below apart low g below apart one))))
+      (λ high.
+      let was : turns_made n t 4 < 3 = omega (arith, more-turns 4 (omega arith), few) in
+      let two : made ≡ 2 = omega (arith, high, was, fewest-made 4 (omega arith) (λ q. omega arith) was) in
+      by_cases (ℕ_discrete g 0)
+      (λ z.
+      let at : y ≡ station_at g 3 = tested-at 3 (omega (arith, (zero-test z (omega arith)).1, two)) in
+      let three : station_at g 3 ≡ 3 = rw z refl in
+      omega (arith, k, at, three))
+      (λ z.
+      let at : y ≡ station_at g 4 = tested-at 4 (far-test z e ∙ rw two refl) in
+      z (sym (xor-undo g 4) ∙ ap (λ (x : ℕ). bit_xor x 4) (sym at ∙ sym k))))
+
+  unaware' : turns_made n t' 4 < 3 → suspects n t' 4 1 ≡ 0
+  unaware' few =
+      let plain = (kept wiring_cube n L crew 5 p o.running).plain in
+      let not_one : suspects n t' 4 1 ≢ 1 =
+      λ one. by_bool (makes_test wiring_cube n t g)
+      (λ e. unheard few e (heard-of 4 (omega arith) one e))
+      (λ e. omega (arith, one, same-row 4 e, o.unaware (omega (arith, more-turns 4 (omega arith), few)))) in
+      omega (arith, not_one, (plain.lines.1 4 (omega arith)).range 1 (omega arith))
+
+  -- so it goes on
+  pub late-next : round_over n t' ≡ false → Late n d (grant_turn wiring_cube n p)
+  late-next on =
+      let w = goes_on wiring_cube n L crew 5 p o.running on in
+      record {
+        running = w.running;
+        paced = rw w.table paced';
+        early = rw w.table early';
+        near = rw w.table near';
+        unaware = rw w.table unaware';
+      }
+
+  -- who waits when board 4 has made three turns has made three too
+  waiting-three : 3 ≤ turns_made n t 4 → (i : ℕ) → i < n → i ≢ 1 → finished n t i ≡ 0 → 3 ≤ turns_made n t i
+  unfolding waits
+  waiting-three l i h q f =
+      let s = o.running.sweep in
+      let waits_i : waits n t i ≡ true = rw (o.running.plain.lives i h ∙ others i h q, f) refl in
+      let place = place-below n 5 i (omega arith) h in
+      by_cases (dec_lt (stations_before n 5 i) s.passed)
+      (λ m. omega (arith, s.done i h waits_i m, s.most 4 (omega arith)))
+      (λ m.
+      by_cases (ℕ_discrete (finished n t 4) 0)
+      (λ z.
+      let waits_4 : waits n t 4 ≡ true = rw (o.running.plain.lives 4 (omega arith), z) refl in
+      omega (arith, s.to_come i h waits_i (omega arith), s.to_come 4 (omega arith) waits_4 (omega (arith, place, place-last n (omega arith)))))
+      (λ z.
+      let one : finished n t 4 ≡ 1 = omega (arith, z, (o.running.plain.lines.1 4 (omega arith)).pass.finished_range) in
+      let all = ((o.paced 4 (omega arith) (λ q. omega arith)).far (not-beside 4 (λ q. omega arith))).ended one in
+      omega (arith, s.to_come i h waits_i (omega arith), s.most 4 (omega arith), all, one)))
+
+  -- where turns are left to three board 4 has not made its third
+  pub late-unaware : 1 ≤ left_of_three n t → suspects n t 4 1 ≡ 0
+  unfolding turns_left
+  late-unaware some =
+      by_cases (dec_lt (turns_made n t 4) 3) o.unaware
+      (λ l.
+      let all : (i : ℕ) → i < n → i ≢ 1 → 3 ≤ turns_made n t i =
+      λ i h q. by_cases (ℕ_discrete (finished n t i) 0) (waiting-three (omega arith) i h q) (ended-three i h q) in
+      let each : (i : ℕ) → i < n → turns_left L (λ i. 2) (turns_made n t) i ≡ 0 =
+      λ i h. by_bool (L i) (λ live. rw live (omega (arith, all i h (but-apart 1 i live)))) (λ live. rw live refl) in
+      absurd (omega (arith, some, sum_by n each, sum-const 0 n, mul-zero n)))
