@@ -168,7 +168,7 @@ module _ (n d : ℕ) (c : Cubic n d) (three : 3 ≤ d) (eight : 8 ≤ n) (p : St
       (λ f. absurd (omega (arith, ended-three i h q f)))
 
   -- as long as turns are left to three the granted board makes one of them
-  few-turns : 1 ≤ left_of_three n t → made < 3
+  pub few-turns : 1 ≤ left_of_three n t → made < 3
   unfolding turns_left
   few-turns some =
       by_cases (dec_lt made 3) (λ l. l)

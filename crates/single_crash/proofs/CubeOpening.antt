@@ -97,7 +97,7 @@ module _ (n d : ℕ) (c : Cubic n d) (three : 3 ≤ d) (eight : 8 ≤ n) where
           counted = rw w.table (omega (arith, one-less, o.counted));
         })
 
-  opening-after : (p : Stand) (k : ℕ) → k < n * suc d → Opening n d 0 p → Opening n d k (after_grants wiring_cube n p k)
+  pub opening-after : (p : Stand) (k : ℕ) → k < n * suc d → Opening n d 0 p → Opening n d k (after_grants wiring_cube n p k)
   unfolding after_grants
   opening-after p zero more o = o
   opening-after p (suc k) more o = opening-next k _ (opening-after p k (omega arith) o) more

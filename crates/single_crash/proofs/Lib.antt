@@ -13,7 +13,7 @@ pub mod CubeKnown
 pub mod CubeOrder
 pub mod CubeOpening
 pub mod CubeLate
-pub mod CubeSlowest
+pub mod CubeReach
 pub mod Sweeps
 pub mod SweepLaw
 pub mod Running
