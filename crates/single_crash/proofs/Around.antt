@@ -2,16 +2,13 @@
 -- Assumes nothing.
 use mathlib.Core.Path.{◌≡◌, refl, sym, ◌∙◌}
 use mathlib.Core.Logic.{◌⊎◌, inl, inr, ◌≢◌, by_cases}
-use mathlib.Core.Bool.{Bool, true, false}
 use Prim.Native.Nat.{ℕ, suc, ◌+◌, ◌-◌, ◌%◌, ◌≤◌, ◌<◌}
-use native.Mathlib.Decide.{dec_lt, ℕ_discrete}
-use native.Mathlib.Numerals.{add-one}
+use native.Mathlib.Decide.{dec_lt}
 use native.Mathlib.Omega.{arith}
 use borrow.Author.Tests.{lt-ltb, le-ltb, ne_eqb}
 use Rattle.granter.specs.Grant.{no_grant, following}
 use Rattle.granter.specs.Fairness.{stations_before}
 use Rattle.station.proofs.WiredLaws.{place_before, place_behind}
-use Rattle.single_crash.proofs.Sweeps.{place-one}
 
 -- the board q places behind b; the one before it; the one behind it
 abbrev pub board_at : ℕ → ℕ → ℕ → ℕ

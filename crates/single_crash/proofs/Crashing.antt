@@ -1,46 +1,42 @@
 -- One board crashes in a plant whose boards are all live: where the drive stands then, and when the board is known.
 -- Assumes nothing.
-use mathlib.Core.Path.{◌≡◌, refl, sym, ap, ◌∙◌}
+use mathlib.Core.Path.{◌≡◌, refl, sym, ◌∙◌}
 use mathlib.Core.Logic.{◌≢◌, by_cases}
-use mathlib.Core.Bool.{Bool, true, false, not, true≢false}
+use mathlib.Core.Bool.{Bool, true, false, not}
 use mathlib.Core.List.{List}
-use Prim.Native.Nat.{ℕ, suc, ◌+◌, ◌≤◌, ◌<◌}
+use Prim.Native.Nat.{ℕ, ◌+◌, ◌≤◌, ◌<◌}
 use native.Mathlib.Decide.{ℕ_discrete}
 use native.Mathlib.Numerals.{add-one}
 use native.Mathlib.Omega.{arith}
-use borrow.Author.Tests.{eqb-true, eqb-false, eq-eqb, ne_eqb}
+use borrow.Author.Tests.{eq-eqb, ne_eqb}
 use lib.Dec.{eqb}
 use lib.Seq.{ext_get_or}
-use Rattle.std.specs.Prelude.{Ok}
 use Rattle.lists.specs.Sums.{bit}
 use Rattle.lists.proofs.BoolLaws.{by_bool}
-use Rattle.lists.proofs.SearchLaws.{both, every-all, every-not, list_of-length, list_of-at}
+use Rattle.lists.proofs.SearchLaws.{both, list_of-length, list_of-at}
+use Rattle.std.specs.Prelude.{Ok}
 use Rattle.table.specs.Sizes.{is_size}
 use Rattle.table.specs.Wiring.{wiring_check}
-use Rattle.table.specs.Table.{head, stride, cell, status_column, next_column, finished_column, tests_column, finished, tests_made, suspects, live, row}
+use Rattle.table.specs.Table.{head, stride, cell, status_column, finished_column, tests_column, finished, suspects, live, row}
 use Rattle.table.specs.Table.{status_crashed}
-use Rattle.table.specs.Rules.{wired_line_rules, not_live, some_live, round_over}
+use Rattle.table.specs.Rules.{not_live, round_over}
 use Rattle.table.specs.Properties.{exact_row}
 use Rattle.table.proofs.SizeLaws.{size-bounds}
-use Rattle.table.proofs.Accepting.{Accepted}
-use Rattle.table.proofs.CellLaws.{cell_same, cell_other, row-length, row_at, line-holds}
-use Rattle.plant.specs.Turn.{kind_turn, kind_crash, next_test, makes_test, outcome_at, turn, crash}
+use Rattle.table.proofs.CellLaws.{cell_same, cell_other, row-length, row_at, accepted-line}
+use Rattle.plant.specs.Turn.{crash}
 use Rattle.plant.specs.Round.{reset_lines, after_round}
 use Rattle.plant.specs.Entry.{state_of, acted, after}
-use Rattle.plant.proofs.RunLaws.{accepted-number}
-use Rattle.plant.proofs.RulesKept.{unfinished-open}
 use Rattle.plant.proofs.RoundLaws.{Reset, reset-cells}
 use Rattle.plant.proofs.StepLines.{leave-lines}
-use Rattle.plant.proofs.TurnHeads.{Heads, turn-heads}
-use Rattle.granter.specs.Grant.{no_grant, waits, following, last_refusal, grant_refusal}
-use Rattle.granter.specs.Drive.{Stand, stand_at, granted_at, grant_turn}
-use Rattle.granter.proofs.GrantLaws.{granted-waits, waits-parts, grant-zero, station-fits, last-below}
-use Rattle.granter.proofs.Fair.{next-going-round}
-use Rattle.detection.proofs.TurnEffect.{Plain, Company, Grown, Exact, TurnKept, turn-effect}
+use Rattle.granter.specs.Grant.{waits, following}
+use Rattle.granter.specs.Drive.{Stand, stand_at}
+use Rattle.granter.proofs.GrantLaws.{grantable}
+use Rattle.detection.proofs.TurnEffect.{Plain, Exact}
 use Rattle.detection.proofs.RoundKnowledge.{reset-rows}
+use Rattle.detection.proofs.DetectionClaim.{first_round}
 use Rattle.single_crash.specs.Sweeps.{turns_made}
-use Rattle.single_crash.specs.Setting.{crash_at, KnownDead}
-use Rattle.single_crash.proofs.Sweeps.{InSweep, sweep-start, Next, Moved, sweep-next, sweep-fewer}
+use Rattle.single_crash.specs.Setting.{Sound, crash_at, KnownDead}
+use Rattle.single_crash.proofs.Sweeps.{sweep-fewer}
 use Rattle.single_crash.proofs.Running.{Crew, Running, Closed, WentOn, begin}
 
 -- every board, and every board but b
@@ -49,6 +45,53 @@ everyone i = true
 
 abbrev pub all_but : ℕ → ℕ → Bool
 all_but b i = not (eqb i b)
+
+pub everyone-crew : (w n : ℕ) → wiring_check w ≡ Ok tt → is_size n ≡ true → Crew w n everyone
+everyone-crew w n wired size =
+    let two = (size-bounds n size).0 in
+    record {
+      wired = wired;
+      size = size;
+      company = λ i h l. by_cases (ℕ_discrete i 0) (λ e. (1, omega arith, omega arith, refl)) (λ d. (0, omega arith, d, refl));
+      someone = (0, omega arith, refl);
+    }
+
+pub others-crew : (w n b : ℕ) → wiring_check w ≡ Ok tt → is_size n ≡ true → 3 ≤ n → Crew w n (all_but b)
+others-crew w n b wired size three = record {
+  wired = wired;
+  size = size;
+  company = λ i h l. third i;
+  someone = let z = third b in (z.0, z.1, z.3);
+}
+  where
+    Third : ℕ → Type 0
+    Third i = (j : ℕ) × (j < n) × (i ≢ j) × (all_but b j ≡ true)
+
+    at : (i j : ℕ) → j < n → i ≢ j → b ≢ j → Third i
+    at i j h d e = (j, h, d, rw (ne_eqb j b (λ q. e (sym q))) refl)
+
+    -- some board is neither i nor b
+    third : (i : ℕ) → Third i
+    third i =
+        by_cases (ℕ_discrete i 0)
+        (λ e. by_cases (ℕ_discrete b 1) (λ f. at i 2 (omega arith) (omega arith) (omega arith)) (λ f. at i 1 (omega arith) (omega arith) f))
+        (λ d. by_cases (ℕ_discrete b 0)
+        (λ f. by_cases (ℕ_discrete i 1) (λ e. at i 2 (omega arith) (omega arith) (omega arith)) (λ e. at i 1 (omega arith) e (omega arith)))
+        (λ f. at i 0 (omega arith) d f))
+
+-- a sound plant
+pub sound-fresh : (w n : ℕ) (p : Stand) → Sound w n p → (i : ℕ) → i < n → Reset n p.state.table i
+sound-fresh w n p given =
+    (first_round w n p.state.table (grantable w n p.state.table p.last given.granted).ok given.start (λ i j h k a c. given.nobody i j h k)).fresh
+
+pub sound-run : (w n : ℕ) (p : Stand) → Sound w n p → Running w n everyone (following p.last) p
+sound-run w n p given =
+    let g = grantable w n p.state.table p.last given.granted in
+    begin w n everyone (everyone-crew w n g.ok.wired g.ok.size) p (record {
+      lines = (g.ok.long, accepted-line w n p.state.table g.ok);
+      lives = given.all_live;
+      accurate = λ i j h k a c. given.nobody i j h k;
+    }) (sound-fresh w n p given) g.last_fits
 
 -- b crashes in a plant whose boards are all live, and in which nobody suspects anybody
 module _ (w n b begins : ℕ) (q : Stand) (crew : Crew w n (all_but b)) (hb : b < n) (r : Running w n everyone begins q) where
@@ -123,6 +166,10 @@ module _ (w n b begins : ℕ) (q : Stand) (crew : Crew w n (all_but b)) (hb : b 
               r.sweep;
         };
       })
+
+  pub crash-runs : (c : ℕ) × Running w n (all_but b) c q'
+  crash-runs =
+      by_bool (round_over n t') (λ over. (_, (crash-closes over).running)) (λ unclosed. (_, (crash-goes_on unclosed).running))
 
   -- it makes no turn
   pub crash-turns : round_over n t' ≡ false → (i : ℕ) → turns_made n q'.state.table i ≡ turns_made n t i

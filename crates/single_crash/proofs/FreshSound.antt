@@ -2,11 +2,9 @@
 -- Assumes nothing.
 use mathlib.Core.Path.{◌≡◌, refl, ◌∙◌}
 use mathlib.Core.Bool.{true}
-use Prim.Native.Nat.{ℕ, ◌+◌, ◌≤◌, ◌<◌}
+use Prim.Native.Nat.{ℕ, ◌+◌, ◌<◌}
 use native.Mathlib.Omega.{arith}
 use borrow.Author.Tests.{eq-eqb, ne_eqb}
-use Rattle.std.specs.Prelude.{Ok}
-use Rattle.table.specs.Sizes.{is_size}
 use Rattle.table.specs.Table.{head, status_column, next_column, told_by_column, status, suspects, live}
 use Rattle.table.specs.Rules.{not_live, some_live}
 use Rattle.table.specs.Fresh.{fresh_table}

@@ -1,4 +1,20 @@
--- The laws that the proofs of `single_crash` share.
+-- The laws that the proofs of `single_crash` share: of grants and sweeps, of the crash, then of the ring and of the cube.
+pub mod Sweeps
+pub mod SweepLaw
+pub mod Running
+pub mod Crashing
+pub mod FreshSound
+pub mod Drives
+pub mod Passes
+pub mod Around
+pub mod OnRing
+pub mod RingLast
+pub mod RingStages
+pub mod RingFirst
+pub mod RingKnown
+pub mod Unaware
+pub mod RingSlow
+pub mod RingReach
 pub mod CubeDue
 pub mod CubePace
 pub mod CubeLearn
@@ -14,18 +30,3 @@ pub mod CubeOrder
 pub mod CubeOpening
 pub mod CubeLate
 pub mod CubeReach
-pub mod Sweeps
-pub mod SweepLaw
-pub mod Running
-pub mod Crashing
-pub mod Passes
-pub mod Around
-pub mod OnRing
-pub mod RingStages
-pub mod RingLast
-pub mod RingFirst
-pub mod RingKnown
-pub mod Unaware
-pub mod RingSlow
-pub mod FreshSound
-pub mod RingReach

@@ -1,13 +1,11 @@
 -- The drive on the ring: what a grant does to the passes, and the plant in which nothing is wrong.
 -- Assumes nothing.
-use mathlib.Core.Path.{◌≡◌, refl, sym, ap, ◌∙◌}
-use mathlib.Core.Logic.{◌≢◌, by_cases}
-use mathlib.Core.Bool.{Bool, true, false, not, true≢false}
+use mathlib.Core.Path.{◌≡◌, refl}
+use mathlib.Core.Bool.{Bool, true, false}
 use mathlib.Core.List.{List}
-use Prim.Native.Nat.{ℕ, zero, suc, ◌+◌, ◌-◌, ◌%◌, ◌≤◌, ◌<◌}
-use native.Mathlib.Decide.{dec_lt, ℕ_discrete}
+use Prim.Native.Nat.{ℕ, zero, suc, ◌+◌, ◌%◌, ◌≤◌, ◌<◌}
 use native.Mathlib.Omega.{arith}
-use Rattle.lists.specs.Sums.{sum_below, bit}
+use Rattle.lists.specs.Sums.{sum_below}
 use Rattle.lists.proofs.BoolLaws.{by_bool}
 use Rattle.lists.proofs.SumLaws.{sum-zero}
 use Rattle.table.specs.Sizes.{is_size}
@@ -18,15 +16,14 @@ use Rattle.table.proofs.SizeLaws.{size-bounds}
 use Rattle.plant.specs.Turn.{kind_turn, next_test, makes_test, outcome_at, turn}
 use Rattle.plant.proofs.RoundLaws.{Reset}
 use Rattle.granter.specs.Drive.{Stand, granted_at, grant_turn, after_grants}
-use Rattle.detection.proofs.TurnEffect.{Company, Row}
+use Rattle.detection.proofs.TurnEffect.{Row}
 use Rattle.detection.proofs.RoundKnowledge.{all-finished}
 use Rattle.detection.proofs.RingPass.{RingTurn}
 use Rattle.detection.proofs.RingTurns.{ring-turns}
 use Rattle.single_crash.specs.Sweeps.{turns_made}
-use Rattle.single_crash.proofs.Running.{Crew, Running, Closed, WentOn, chosen, is_live, going, kept, heads, moved, closes, goes_on}
-use Rattle.single_crash.proofs.Crashing.{everyone}
+use Rattle.single_crash.proofs.Running.{Crew, Running, chosen, is_live, going, kept, heads, moved, closes, goes_on}
+use Rattle.single_crash.proofs.Crashing.{everyone, everyone-crew}
 use Rattle.single_crash.proofs.Passes.{Reaches, Passing, made-most, passing-start, PassTurn, passing-turn, turn-left, turns_left, left-turn}
-use Rattle.single_crash.proofs.Around.{board-below}
 
 abbrev w : ℕ
 w = wiring_ring
@@ -98,14 +95,14 @@ module _ (n : ℕ) (L : ℕ → Bool) (crew : Crew w n L) (begins : ℕ) (p : St
   module _ (reach : ℕ → ℕ) (pass : PassesOf n L reach t) where
     pub passes-on : PassesOf n L reach t'
     passes-on =
-        passing-turn n L (Row n t) (Row n t') (next_distance n t) (next_distance n t') (tests_made n t) (tests_made n t') (finished n t) (finished n t')
-        g pass-turn reach pass
+        passing-turn n L (Row n t) (Row n t') (next_distance n t) (next_distance n t') (tests_made n t) (tests_made n t') (finished n t)
+        (finished n t') g pass-turn reach pass
 
     -- it had a turn left, and has one less
     pub had-left : turns_made n t g ≤ reach g
     had-left =
-        turn-left n L (Row n t) (Row n t') (next_distance n t) (next_distance n t') (tests_made n t) (tests_made n t') (finished n t) (finished n t')
-        g pass-turn reach pass
+        turn-left n L (Row n t) (Row n t') (next_distance n t) (next_distance n t') (tests_made n t) (tests_made n t') (finished n t)
+        (finished n t') g pass-turn reach pass
 
     pub one-less : suc (left_of n L reach t') ≡ left_of n L reach t
     one-less =
@@ -135,22 +132,13 @@ reach-one n L i two l = record {
   last = λ m e. let z : suc m ≡ 1 = omega arith in rw z l;
 }
 
-pub everyone-crew : (n : ℕ) → is_size n ≡ true → Crew w n everyone
-everyone-crew n size =
-    let two = (size-bounds n size).0 in
-    record {
-      wired = refl;
-      size = size;
-      company = λ i h l. by_cases (ℕ_discrete i 0) (λ e. (1, omega arith, omega arith, refl)) (λ d. (0, omega arith, d, refl));
-      someone = (0, omega arith, refl);
-    }
-
 -- where the drive stands before the crash
 pub record Before (n begins : ℕ) (q : Stand) : Type 0 where
   pub run : Running w n everyone begins q
   pub passes : PassesOf n everyone one q.state.table
 
-pub before-fresh : (n begins : ℕ) (q : Stand) → 2 ≤ n → ((i : ℕ) → i < n → Reset n q.state.table i) → Running w n everyone begins q → Before n begins q
+pub before-fresh : (n begins : ℕ) (q : Stand) → 2 ≤ n → ((i : ℕ) → i < n → Reset n q.state.table i) → Running w n everyone begins q
+    → Before n begins q
 before-fresh n begins q two fresh run = record {
   run = run;
   passes = passes-fresh n everyone one q.state.table fresh (λ i h l. (omega arith, reach-one n everyone i two refl));
@@ -160,13 +148,13 @@ before-fresh n begins q two fresh run = record {
 pub before-on : (n : ℕ) (size : is_size n ≡ true) (begins : ℕ) (q : Stand) → Before n begins q
     → round_over n (turn w n q.state.table kind_turn (granted_at n q)) ≡ false → Before n begins (grant_turn w n q)
 before-on n size begins q before unclosed =
-    let crew = everyone-crew n size in
+    let crew = everyone-crew w n refl size in
     let c = goes_on w n everyone crew begins q before.run unclosed in
     record { run = c.running; passes = rw c.table (passes-on n everyone crew begins q before.run one before.passes) }
 
 pub before-step : (n : ℕ) → is_size n ≡ true → (begins : ℕ) (q : Stand) → Before n begins q → (c : ℕ) × Before n c (grant_turn w n q)
 before-step n size begins q before =
-    let crew = everyone-crew n size in
+    let crew = everyone-crew w n refl size in
     by_bool (round_over n (turn w n q.state.table kind_turn (granted_at n q)))
     (λ over.
     let c = closes w n everyone crew begins q before.run over in

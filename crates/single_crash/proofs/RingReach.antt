@@ -4,13 +4,13 @@ use mathlib.Core.Path.{◌≡◌, refl, sym, ap, ◌∙◌}
 use mathlib.Core.Logic.{◌≢◌, inl, by_cases}
 use mathlib.Core.Bool.{Bool, true, false, ◌||◌, or-false}
 use mathlib.Core.List.{List}
-use Prim.Native.Nat.{ℕ, zero, suc, ◌+◌, ◌-◌, ◌*◌, ◌%◌, ◌≤◌, ◌<◌}
+use Prim.Native.Nat.{ℕ, suc, ◌+◌, ◌-◌, ◌*◌, ◌≤◌, ◌<◌}
 use native.Mathlib.Decide.{dec_lt, ℕ_discrete}
 use native.Mathlib.Omega.{arith}
 use borrow.Author.Tests.{le-ltb, ne_eqb}
 use lib.Dec.{leb, eqb}
 use lib.ListN.{get_or}
-use Rattle.lists.specs.Sums.{sum_below, bit}
+use Rattle.lists.specs.Sums.{bit}
 use Rattle.lists.proofs.BoolLaws.{by_bool}
 use Rattle.lists.specs.Search.{list_of}
 use Rattle.lists.proofs.SearchLaws.{list_of-at}
@@ -32,15 +32,15 @@ use Rattle.detection.proofs.RoundKnowledge.{all-finished}
 use Rattle.single_crash.specs.Sweeps.{turns_made}
 use Rattle.single_crash.specs.Setting.{Sound, crash_at, behind_crash, RoundsSince, KnownDead}
 use Rattle.single_crash.specs.Ring.{RingNoFewerGrants, RingNoFewerRounds}
-use Rattle.single_crash.proofs.Sweeps.{place-one, sweep-fewest, sweep-first}
+use Rattle.single_crash.proofs.Sweeps.{sweep-fewest, sweep-first}
 use Rattle.single_crash.proofs.SweepLaw.{none-made}
 use Rattle.single_crash.proofs.Running.{Running, chosen, next, moved, goes_on}
-use Rattle.single_crash.proofs.Crashing.{everyone, all_but, crash-plain, crash-same, crash-turns, crash-goes_on}
+use Rattle.single_crash.proofs.Crashing.{everyone, all_but, everyone-crew, crash-plain, crash-same, crash-turns, crash-goes_on}
 use Rattle.single_crash.proofs.Passes.{made-most, turns_left}
 use Rattle.single_crash.proofs.Around.{BeginsAt, place-zero, place-next}
 use Rattle.single_crash.proofs.Around as around
-use Rattle.single_crash.proofs.OnRing.{left_of, one, everyone-crew, Before, one-less, none-left, before-on}
-use Rattle.single_crash.proofs.RingStages.{crew, at_place, sum-at, crash-waiting}
+use Rattle.single_crash.proofs.OnRing.{left_of, one, Before, one-less, none-left, before-on}
+use Rattle.single_crash.proofs.RingStages.{Ring, crew, at_place, sum-at, crash-waiting}
 use Rattle.single_crash.proofs.RingKnown.{sound-before}
 use Rattle.single_crash.proofs.RingSlow.{WaitingSlow, Slow, slow_waiting, slow-unaware, slow-rounds, slow-after}
 use Rattle.single_crash.proofs.FreshSound.{fresh-is-sound}
@@ -58,6 +58,9 @@ none-fits n = by_bool (leb n no_grant) (λ e. rw e refl) (λ e. rw e refl)
 module _ (n : ℕ) (size : is_size n ≡ true) (four : 4 ≤ n) where
   hb : 2 < n
   hb = omega arith
+
+  ring : Ring n 2
+  ring = record { size = size; four = four; hb = hb }
 
   -- the boards before board 2
   a-is : around.before n 2 ≡ 1
@@ -100,8 +103,8 @@ module _ (n : ℕ) (size : is_size n ≡ true) (four : 4 ≤ n) where
     at-x : g ≡ x
     at-x =
         let r = s.before.run in
-        let chain = next w n everyone (everyone-crew n size) 0 p r in
-        let g<n = (chosen w n everyone (everyone-crew n size) 0 p r).0 in
+        let chain = next w n everyone (everyone-crew w n refl size) 0 p r in
+        let g<n = (chosen w n everyone (everyone-crew w n refl size) 0 p r).0 in
         let zero : turns_made n t x ≡ 0 = s.turns x (omega arith) ∙ none in
         let few = sweep-fewest n 0 (waits n t) (turns_made n t) p.last g r.fits r.sweep chain x (omega arith) x-waits in
         let same : turns_made n t g ≡ 0 = omega arith in
@@ -111,7 +114,7 @@ module _ (n : ℕ) (size : is_size n ≡ true) (four : 4 ≤ n) where
 
     pub one-open : round_over n t' ≡ false
     one-open =
-        let crew = everyone-crew n size in
+        let crew = everyone-crew w n refl size in
         let r = s.before.run in
         by_bool (round_over n t')
         (λ over.
@@ -120,7 +123,7 @@ module _ (n : ℕ) (size : is_size n ≡ true) (four : 4 ≤ n) where
 
     pub first-on : (made' : ℕ → ℕ) → made' x ≡ 1 → ((i : ℕ) → i ≢ x → made' i ≡ made i) → First (grant_turn w n p) made'
     first-on made' own same =
-        let crew = everyone-crew n size in
+        let crew = everyone-crew w n refl size in
         let r = s.before.run in
         let m = moved w n everyone crew 0 p r in
         let o = goes_on w n everyone crew 0 p r one-open in
@@ -133,7 +136,7 @@ module _ (n : ℕ) (size : is_size n ≡ true) (four : 4 ≤ n) where
 
     pub first-left : suc (left_of n everyone one (grant_turn w n p).state.table) ≡ left_of n everyone one t
     first-left =
-        let crew = everyone-crew n size in
+        let crew = everyone-crew w n refl size in
         let r = s.before.run in
         rw (goes_on w n everyone crew 0 p r one-open).table (one-less n everyone crew 0 p r one s.before.passes)
 
@@ -205,8 +208,8 @@ module _ (n : ℕ) (size : is_size n ≡ true) (four : 4 ≤ n) where
   crash-open =
       by_bool (round_over n v')
       (λ over.
-      let done = all-finished w n L v' (crash-plain w n 2 0 p₂ (crew n 2 size four hb) hb run) over 3 (omega arith) refl in
-      let same = crash-same w n 2 0 p₂ (crew n 2 size four hb) hb run 3 finished_column (omega arith) (omega arith) in
+      let done = all-finished w n L v' (crash-plain w n 2 0 p₂ (crew n 2 ring) hb run) over 3 (omega arith) refl in
+      let same = crash-same w n 2 0 p₂ (crew n 2 ring) hb run 3 finished_column (omega arith) (omega arith) in
       absurd (omega (arith, done, same, unmade 3 (omega arith) (omega arith))))
       (λ o. o)
 
@@ -214,7 +217,7 @@ module _ (n : ℕ) (size : is_size n ≡ true) (four : 4 ≤ n) where
   q = crash_at w n p₂ 2
 
   turns-now : (i : ℕ) → i < n → turns_made n q.state.table i ≡ both-made i
-  turns-now i h = crash-turns w n 2 0 p₂ (crew n 2 size four hb) hb run crash-open i ∙ first-1.turns i h
+  turns-now i h = crash-turns w n 2 0 p₂ (crew n 2 ring) hb run crash-open i ∙ first-1.turns i h
 
   -- 2n − 4 turns are left
   left-now : left_of n L one q.state.table + 4 ≡ n * 2
@@ -250,12 +253,12 @@ module _ (n : ℕ) (size : is_size n ≡ true) (four : 4 ≤ n) where
       (λ e. omega (arith, first-1.before.passes.range 1 (omega arith))) in
       omega (arith, ap (λ (i : ℕ). tests_made n v i) a-is, one-test)
 
-  slow : WaitingSlow n 2 size four hb 0 q
+  slow : WaitingSlow n 2 ring 0 q
   slow =
-      let o = crash-goes_on w n 2 0 p₂ (crew n 2 size four hb) hb run crash-open in
-      let same : (k c : ℕ) → 1 ≤ c → c < stride n → cell n v' k c ≡ cell n v k c = crash-same w n 2 0 p₂ (crew n 2 size four hb) hb run in
+      let o = crash-goes_on w n 2 0 p₂ (crew n 2 ring) hb run crash-open in
+      let same : (k c : ℕ) → 1 ≤ c → c < stride n → cell n v' k c ≡ cell n v k c = crash-same w n 2 0 p₂ (crew n 2 ring) hb run in
       record {
-        waiting = crash-waiting n 2 size four hb 0 p₂ first-1.before crash-open tested;
+        waiting = crash-waiting n 2 ring 0 p₂ first-1.before crash-open tested;
         from = inl (sym d-is);
         unfinished =
             rw (o.table, z-is)
@@ -263,16 +266,16 @@ module _ (n : ℕ) (size : is_size n ≡ true) (four : 4 ≤ n) where
         unaware = λ k h l. rw o.table (same k (head + 2) (omega arith) (omega arith) ∙ run.plain.accurate k 2 h hb refl refl);
       }
 
-  slow-plant : Slow n 2 size four hb p₂.state.rounds (5 * n - 9) q
+  slow-plant : Slow n 2 ring p₂.state.rounds (5 * n - 9) q
   slow-plant =
-      let o = crash-goes_on w n 2 0 p₂ (crew n 2 size four hb) hb run crash-open in
+      let o = crash-goes_on w n 2 0 p₂ (crew n 2 ring) hb run crash-open in
       slow_waiting 0 slow o.rounds (omega (arith, left-now))
 
-  slow-end : Slow n 2 size four hb p₂.state.rounds 0 (after_grants w n q (5 * n - 9))
+  slow-end : Slow n 2 ring p₂.state.rounds 0 (after_grants w n q (5 * n - 9))
   slow-end =
       let most : ℕ = 5 * n - 9 in
       let e : 0 + most ≡ most = omega arith in
-      slow-after n 2 size four hb p₂.state.rounds 0 most q (rw e slow-plant)
+      slow-after n 2 ring p₂.state.rounds 0 most q (rw e slow-plant)
 
 -- so one grant fewer is not enough, nor are two rounds: ends in themselves
 module _ (n : ℕ) (size : is_size n ≡ true) (four : 4 ≤ n) where
@@ -281,11 +284,11 @@ module _ (n : ℕ) (size : is_size n ≡ true) (four : 4 ≤ n) where
 
   unaware : suspects n end 0 2 ≡ 0
   unfolding after_grants
-  unaware = rw (d-is n size four) at (slow-unaware n 2 size four (hb n size four) _ 0 _ (slow-end n size four))
+  unaware = rw (d-is n size four) at (slow-unaware n 2 (ring n size four) _ 0 _ (slow-end n size four))
 
   rounds-closed : RoundsSince w n (started n) 2 2 (5 * n - 9) 2
   unfolding after_grants
-  rounds-closed = let two = slow-rounds n 2 size four (hb n size four) _ _ (slow-end n size four) in omega (arith, two)
+  rounds-closed = let two = slow-rounds n 2 (ring n size four) _ _ (slow-end n size four) in omega (arith, two)
 
   unknown : ¬ (KnownDead n end 2)
   unfolding exact_row
@@ -293,7 +296,8 @@ module _ (n : ℕ) (size : is_size n ≡ true) (four : 4 ≤ n) where
       let mine : live n end 0 ≡ true = known.others_live 0 (omega arith) in
       let dead : not_live n end 2 ≡ true = rw (known.others_live 2 (omega arith)) refl in
       let row = ap (λ (r : List ℕ). get_or r 2 0) (known.exact 0 (omega arith) mine) in
-      let one : get_or (list_of (λ j. bit (not_live n end j)) n) 2 0 ≡ 1 = list_of-at (λ j. bit (not_live n end j)) n 2 (hb n size four) ∙ ap bit dead in
+      let exact : ℕ → ℕ = λ j. bit (not_live n end j) in
+      let one : get_or (list_of exact n) 2 0 ≡ 1 = list_of-at exact n 2 (hb n size four) ∙ ap bit dead in
       omega (arith, unaware, row_at n end 0 2 (hb n size four), row, one)
 
   sound : Sound w n (started n)

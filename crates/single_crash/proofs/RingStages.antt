@@ -1,14 +1,14 @@
 -- The ring after board b has crashed, in three stages: the rest of a round in which the board before b tests b no more; a round in which it tests
 -- it; and the round behind that, in which it goes round who is dead.
 -- Assumes nothing.
-use mathlib.Core.Path.{◌≡◌, refl, sym, ap, ◌∙◌}
+use mathlib.Core.Path.{◌≡◌, refl, sym, ◌∙◌}
 use mathlib.Core.Logic.{◌≢◌, by_cases}
-use mathlib.Core.Bool.{Bool, true, false, not, cond, true≢false}
+use mathlib.Core.Bool.{Bool, true, false, cond, true≢false}
 use mathlib.Core.List.{List}
-use Prim.Native.Nat.{ℕ, zero, suc, ◌+◌, ◌-◌, ◌*◌, ◌%◌, ◌≤◌, ◌<◌}
+use Prim.Native.Nat.{ℕ, suc, ◌+◌, ◌-◌, ◌%◌, ◌≤◌, ◌<◌}
 use native.Mathlib.Decide.{dec_lt, ℕ_discrete}
 use native.Mathlib.Omega.{arith}
-use borrow.Author.Tests.{eqb-true, eq-eqb, ne_eqb}
+use borrow.Author.Tests.{eq-eqb, ne_eqb}
 use lib.Dec.{eqb}
 use Rattle.lists.specs.Sums.{sum_below, bit}
 use Rattle.lists.proofs.BoolLaws.{by_bool}
@@ -29,14 +29,14 @@ use Rattle.detection.proofs.RoundKnowledge.{all-finished}
 use Rattle.single_crash.specs.Sweeps.{turns_made}
 use Rattle.single_crash.specs.Setting.{crash_at}
 use Rattle.single_crash.proofs.Sweeps.{place-one, place-below, sweep-fewest, sweep-first, sweep-most}
-use Rattle.single_crash.proofs.Running.{Crew, Running, Closed, WentOn, chosen, is_live, going, kept, heads, next, moved, closes, goes_on}
-use Rattle.single_crash.proofs.Crashing.{everyone, all_but, crash-same, crash-closes, crash-goes_on}
-use Rattle.single_crash.proofs.Passes.{Reaches, Passing, turns_left}
+use Rattle.single_crash.proofs.Running.{Crew, Running, Closed, WentOn, chosen, is_live, going, kept, heads, next, closes, goes_on}
+use Rattle.single_crash.proofs.Crashing.{all_but, others-crew, crash-same, crash-goes_on}
+use Rattle.single_crash.proofs.Passes.{Reaches, turns_left}
 use Rattle.single_crash.proofs.Around.{board_at, BeginsAt, board-below, begins-fits, place-of, place-zero, place-other, place-next}
 use Rattle.single_crash.proofs.Around.{before-below, before-next, other-next, before-second, before-apart, behind-below, behind-apart, begins-at}
 use Rattle.single_crash.proofs.Around.{both-apart}
 use Rattle.single_crash.proofs.Around as around
-use Rattle.single_crash.proofs.OnRing.{PassesOf, left_of, passes-fresh, counts-at, finds-at, meets-at, passes-on, had-left, one-less, one, reach-one, Before}
+use Rattle.single_crash.proofs.OnRing.{PassesOf, left_of, passes-fresh, counts-at, finds-at, meets-at, passes-on, had-left, one, reach-one, Before}
 
 abbrev w : ℕ
 w = wiring_ring
@@ -48,7 +48,13 @@ at_place p v i = cond (eqb i p) v 0
 pub sum-at : (n p v : ℕ) → p < n → sum_below (at_place p v) n ≡ v
 sum-at n p v h = sum-single (at_place p v) n p h (λ i l d. rw (ne_eqb i p d) refl) ∙ rw (eq-eqb p p refl) refl
 
-module _ (n b : ℕ) (size : is_size n ≡ true) (four : 4 ≤ n) (hb : b < n) where
+-- board b of a ring of four boards at least
+pub record Ring (n b : ℕ) : Type 0 where
+  pub size : is_size n ≡ true
+  pub four : 4 ≤ n
+  pub hb : b < n
+
+module _ (n b : ℕ) (ring : Ring n b) where
   abbrev L : ℕ → Bool
   L = all_but b
 
@@ -60,10 +66,10 @@ module _ (n b : ℕ) (size : is_size n ≡ true) (four : 4 ≤ n) (hb : b < n) w
   c = around.behind n b
 
   pub a-below : a < n
-  a-below = before-below n b hb (omega arith)
+  a-below = before-below n b ring.hb (omega arith)
 
   pub c-below : c < n
-  c-below = behind-below n b hb (omega arith)
+  c-below = behind-below n b ring.hb (omega arith)
 
   pub lives : (i : ℕ) → i ≢ b → L i ≡ true
   lives i d = rw (ne_eqb i b d) refl
@@ -72,22 +78,16 @@ module _ (n b : ℕ) (size : is_size n ≡ true) (four : 4 ≤ n) (hb : b < n) w
   apart i l e = true≢false (sym l ∙ rw (e, eq-eqb b b refl) refl)
 
   pub a-lives : L a ≡ true
-  a-lives = lives a (before-apart n b hb (omega arith))
+  a-lives = lives a (before-apart n b ring.hb (omega arith))
 
   pub c-lives : L c ≡ true
-  c-lives = lives c (behind-apart n b hb (omega arith))
+  c-lives = lives c (behind-apart n b ring.hb (omega arith))
 
   pub b-dead : L b ≡ false
   b-dead = rw (eq-eqb b b refl) refl
 
   pub crew : Crew w n L
-  crew = record {
-    wired = refl;
-    size = size;
-    company = λ i h l. by_cases (ℕ_discrete i a) (λ e. (c, c-below, λ f. both-apart n b hb (omega arith) (sym e ∙ f), c-lives))
-        (λ d. (a, a-below, d, a-lives));
-    someone = (a, a-below, a-lives);
-  }
+  crew = others-crew w n b refl ring.size (omega arith)
 
   -- how many tests each makes in a round that begins now: the one before b tests b and the one behind it
   abbrev pub two_before : ℕ → ℕ
@@ -102,12 +102,12 @@ module _ (n b : ℕ) (size : is_size n ≡ true) (four : 4 ≤ n) (hb : b < n) w
   reach-two : Reaches n L 2 a
   reach-two = record {
     below = omega arith;
-    dead = λ m h. let z : suc m ≡ 1 = omega arith in rw (z, before-next n b hb (omega arith)) b-dead;
-    last = λ m e. rw (e, before-second n b hb (omega arith)) c-lives;
+    dead = λ m h. let z : suc m ≡ 1 = omega arith in rw (z, before-next n b ring.hb (omega arith)) b-dead;
+    last = λ m e. rw (e, before-second n b ring.hb (omega arith)) c-lives;
   }
 
   reach-other : (i : ℕ) → i < n → i ≢ a → Reaches n L 1 i
-  reach-other i h d = reach-one n L i (omega arith) (lives _ (other-next n b hb (omega arith) i h d))
+  reach-other i h d = reach-one n L i (omega arith) (lives _ (other-next n b ring.hb (omega arith) i h d))
 
   reach-before : (i : ℕ) → i < n → (1 ≤ two_before i) × Reaches n L (two_before i) i
   reach-before i h = by_cases (ℕ_discrete i a) (λ e. rw (e, two-at) (omega arith, reach-two)) (λ d. rw (one-at i d) (omega arith, reach-other i h d))
@@ -125,7 +125,7 @@ module _ (n b : ℕ) (size : is_size n ≡ true) (four : 4 ≤ n) (hb : b < n) w
         arith,
         sum-le {f = λ i. f i + at_place b 2 i} {g = λ i. 2 + at_place a 1 i} n most,
         sum-add f (at_place b 2) n,
-        sum-at n b 2 hb,
+        sum-at n b 2 ring.hb,
         sum-add (λ i. 2) (at_place a 1) n,
         sum-at n a 1 a-below,
         sum-const 2 n,
@@ -138,14 +138,14 @@ module _ (n b : ℕ) (size : is_size n ≡ true) (four : 4 ≤ n) (hb : b < n) w
       let f : ℕ → ℕ = turns_left L two_before (turns_made n t) in
       let each : (i : ℕ) → i < n → f i + at_place b 2 i ≡ 2 + at_place a 1 i =
       λ i h. by_cases (ℕ_discrete i b)
-      (λ e. rw (e, eq-eqb b b refl, ne_eqb b a (λ q. before-apart n b hb (omega arith) (sym q))) (omega arith))
+      (λ e. rw (e, eq-eqb b b refl, ne_eqb b a (λ q. before-apart n b ring.hb (omega arith) (sym q))) (omega arith))
       (λ d. rw (ne_eqb i b d) (by_cases (ℕ_discrete i a) (λ e. rw (e, eq-eqb a a refl) (omega (arith, none a a-below)))
       (λ d. rw (ne_eqb i a d) (omega (arith, none i h))))) in
       omega (
         arith,
         sum_by {f = λ i. f i + at_place b 2 i} {g = λ i. 2 + at_place a 1 i} n each,
         sum-add f (at_place b 2) n,
-        sum-at n b 2 hb,
+        sum-at n b 2 ring.hb,
         sum-add (λ i. 2) (at_place a 1) n,
         sum-at n a 1 a-below,
         sum-const 2 n,
@@ -170,7 +170,7 @@ module _ (n b : ℕ) (size : is_size n ≡ true) (four : 4 ≤ n) (hb : b < n) w
         sum-add (λ i. f i + at_place b 2 i) (λ i. at_place x v i + at_place y z i) n,
         sum-add f (at_place b 2) n,
         sum-add (at_place x v) (at_place y z) n,
-        sum-at n b 2 hb,
+        sum-at n b 2 ring.hb,
         sum-at n x v hx,
         sum-at n y z hy,
         sum-const 2 n,
@@ -233,7 +233,7 @@ module _ (n b : ℕ) (size : is_size n ≡ true) (four : 4 ≤ n) (hb : b < n) w
     t' = turn w n t kind_turn g
 
     grows : (i : ℕ) → i < n → suspects n t i b ≡ 1 → suspects n t' i b ≡ 1
-    grows i h e = (kept w n L crew begins p s.run).grows i b h hb e
+    grows i h e = (kept w n L crew begins p s.run).grows i b h ring.hb e
 
     others : a ≢ g → tests_made n t' a ≡ tests_made n t a
     others d = (heads w n L crew begins p s.run).others a tests_column d (omega arith)
@@ -242,14 +242,14 @@ module _ (n b : ℕ) (size : is_size n ≡ true) (four : 4 ≤ n) (hb : b < n) w
     turn-finds : a ≡ g → tests_made n t a ≡ 0 → suspects n t' a b ≡ 1
     turn-finds e none =
         let at = (s.passes.testing a a-below a-lives (omega (arith, two-at))).0 in
-        rw (before-next n b hb (omega arith)) at
-        (finds-at n L crew begins p s.run a 1 e (omega arith) (omega arith) (rw (before-next n b hb (omega arith)) b-dead))
+        rw (before-next n b ring.hb (omega arith)) at
+        (finds-at n L crew begins p s.run a 1 e (omega arith) (omega arith) (rw (before-next n b ring.hb (omega arith)) b-dead))
 
     turn-tells : a ≡ g → tests_made n t a ≡ 1 → suspects n t' c b ≡ 1
     turn-tells e once =
         let at = (s.passes.testing a a-below a-lives (omega (arith, two-at))).0 in
-        let meets = meets-at n L crew begins p s.run a 2 e (omega arith) (omega arith) (rw (before-second n b hb (omega arith)) c-lives) b hb in
-        rw (before-second n b hb (omega arith)) at (meets.0 (s.found (omega arith)))
+        let meets = meets-at n L crew begins p s.run a 2 e (omega arith) (omega arith) (rw (before-second n b ring.hb (omega arith)) c-lives) b ring.hb in
+        rw (before-second n b ring.hb (omega arith)) at (meets.0 (s.found (omega arith)))
 
     finding-found : 1 ≤ tests_made n t' a → suspects n t' a b ≡ 1
     finding-found l =
@@ -286,40 +286,47 @@ module _ (n b : ℕ) (size : is_size n ≡ true) (four : 4 ≤ n) (hb : b < n) w
         let ended : finished n t' a ≡ 1 = all-finished w n L t' (kept w n L crew begins p r).plain over a a-below a-lives in
         let same = h.others a finished_column (λ e. d (sym e)) (omega arith) in
         let after = by_cases (dec_lt (tests_made n t a) 2) (λ l. absurd (omega (arith, s.passes.testing a a-below a-lives (omega (arith, two-at)))))
-            (λ l. s.passes.tested a a-below a-lives (omega (arith, two-at))) in
+        (λ l. s.passes.tested a a-below a-lives (omega (arith, two-at))) in
         let most = sweep-most n begins (waits n t) (turns_made n t) p.last g r.fits r.sweep (next w n L crew begins p r) a a-below in
         absurd (omega (arith, most, after, two-at, one-at g d, had-left n L crew begins p r two_before s.passes, going w n L crew begins p r)))
 
     -- it and the one behind b know b then, and the next round begins at b
     pub finding-closes : round_over n t' ≡ true → (begins' : ℕ) × Spread begins' 0 (grant_turn w n p)
-    finding-closes over = (following g, record {
-      run = z.running;
-      from = rw (finds-last over) (begins-at n b hb (omega arith) top);
-      fresh = λ i h l m. let f = z.fresh i h in (f.next, f.untested, f.unfinished);
-      tested = λ i h l m. absurd (omega (arith, place-other n b (following g) hb from i h (apart i l)));
-      knows = λ i h l m.
-          let same : i ≡ c =
-          place-one n (following g) i c (begins-fits n b (following g) hb from) h c-below
-          (omega (arith, place-other n b (following g) hb from i h (apart i l), place-of n b (following g) hb from 1 (omega arith))) in
-          rw same (z.grown c b c-below hb (finding-told ended));
-      before_knows = z.grown a b a-below hb (finding-found (omega (arith, ended)));
-    })
+    finding-closes over = (
+      following g,
+      record {
+        run = z.running;
+        from = rw (finds-last over) (begins-at n b ring.hb (omega arith) top);
+        fresh = λ i h l m. let f = z.fresh i h in (f.next, f.untested, f.unfinished);
+        tested = λ i h l m. absurd (omega (arith, place-other n b (following g) ring.hb from i h (apart i l)));
+        knows = λ i h l m.
+            let same : i ≡ c =
+            place-one n (following g) i c (begins-fits n b (following g) ring.hb from) h c-below
+            (omega (arith, place-other n b (following g) ring.hb from i h (apart i l), place-of n b (following g) ring.hb from 1 (omega arith))) in
+            rw same (z.grown c b c-below ring.hb (finding-told ended));
+        before_knows = z.grown a b a-below ring.hb (finding-found (omega (arith, ended)));
+      },
+    )
       where
         z : Closed w n L t' g p (grant_turn w n p)
         z = closes w n L crew begins p s.run over
 
         top : n ≤ 64
-        top = (size-bounds n size).1
+        top = (size-bounds n ring.size).1
 
         from : BeginsAt n b (following g)
-        from = rw (finds-last over) (begins-at n b hb (omega arith) top)
+        from = rw (finds-last over) (begins-at n b ring.hb (omega arith) top)
 
         ended : 2 ≤ tests_made n t' a
         ended =
             let done = all-finished w n L t' (kept w n L crew begins p s.run).plain over a a-below a-lives in
             by_cases (dec_lt 1 (tests_made n t' a)) (λ m. m)
-            (λ m. absurd (omega (arith, done, (passes-on n L crew begins p s.run two_before s.passes).testing a a-below a-lives
-            (omega (arith, two-at)))))
+            (λ m. absurd (omega (
+              arith,
+              done,
+              (passes-on n L crew begins p s.run two_before s.passes).testing a a-below a-lives
+                  (omega (arith, two-at)),
+            )))
 
   -- a grant in the round behind that
   module _ (begins j : ℕ) (p : Stand) (s : Spread begins j p) (more : j + 3 < n) where
@@ -336,7 +343,7 @@ module _ (n b : ℕ) (size : is_size n ≡ true) (four : 4 ≤ n) (hb : b < n) w
     place i = stations_before n begins i
 
     fits : begins ≤ n
-    fits = begins-fits n b begins hb s.from
+    fits = begins-fits n b begins ring.hb s.from
 
     below : e < n
     below = (chosen w n L crew begins p s.run).0
@@ -346,13 +353,13 @@ module _ (n b : ℕ) (size : is_size n ≡ true) (four : 4 ≤ n) (hb : b < n) w
     x = board_at n b (suc j)
 
     x-below : x < n
-    x-below = board-below n b (suc j) hb (omega arith)
+    x-below = board-below n b (suc j) ring.hb (omega arith)
 
     x-place : place x ≡ suc j
-    x-place = place-of n b begins hb s.from (suc j) (omega arith)
+    x-place = place-of n b begins ring.hb s.from (suc j) (omega arith)
 
     x-lives : L x ≡ true
-    x-lives = lives x (λ q. omega (arith, x-place, rw (← q) at (place-zero n b begins hb s.from)))
+    x-lives = lives x (λ q. omega (arith, x-place, rw (← q) at (place-zero n b begins ring.hb s.from)))
 
     x-waits : waits n u x ≡ true
     unfolding waits
@@ -386,18 +393,18 @@ module _ (n b : ℕ) (size : is_size n ≡ true) (four : 4 ≤ n) (hb : b < n) w
     y = (e + 1) % n
 
     pub y-place : place y ≡ suc (suc j)
-    y-place = omega (arith, place-next n b begins hb s.from e below (omega (arith, e-place)), e-place)
+    y-place = omega (arith, place-next n b begins ring.hb s.from e below (omega (arith, e-place)), e-place)
 
     y-below : y < n
     y-below = board-below n e 1 below (omega arith)
 
     pub y-lives : L y ≡ true
-    y-lives = lives y (λ q. omega (arith, y-place, rw (← q) at (place-zero n b begins hb s.from)))
+    y-lives = lives y (λ q. omega (arith, y-place, rw (← q) at (place-zero n b begins ring.hb s.from)))
 
     y-hears : suspects n u' y b ≡ 1
     y-hears =
         let f = s.fresh e below e-lives (omega (arith, e-place)) in
-        (meets-at n L crew begins p s.run e 1 refl f.0 (omega arith) y-lives b hb).0 (s.knows e below e-lives (omega (arith, e-place)))
+        (meets-at n L crew begins p s.run e 1 refl f.0 (omega arith) y-lives b ring.hb).0 (s.knows e below e-lives (omega (arith, e-place)))
 
     counted : tests_made n u' e ≡ suc (tests_made n u e)
     counted =
@@ -410,7 +417,7 @@ module _ (n b : ℕ) (size : is_size n ≡ true) (four : 4 ≤ n) (hb : b < n) w
         by_bool (round_over n u')
         (λ over.
         let done = all-finished w n L u' (kept w n L crew begins p s.run).plain over a a-below a-lives in
-        let far = place-of n b begins hb s.from (n - 1) (omega arith) in
+        let far = place-of n b begins ring.hb s.from (n - 1) (omega arith) in
         let other : a ≢ e = λ q. omega (arith, far, e-place, rw q at far) in
         let same = (heads w n L crew begins p s.run).others a finished_column other (omega arith) in
         absurd (omega (arith, done, same, s.fresh a a-below a-lives (omega (arith, far)))))
@@ -421,7 +428,7 @@ module _ (n b : ℕ) (size : is_size n ≡ true) (four : 4 ≤ n) (hb : b < n) w
         let o = goes_on w n L crew begins p s.run spread-open in
         let h = heads w n L crew begins p s.run in
         let grows : (i : ℕ) → i < n → suspects n u i b ≡ 1 → suspects n u' i b ≡ 1 =
-        λ i l q. (kept w n L crew begins p s.run).grows i b l hb q in
+        λ i l q. (kept w n L crew begins p s.run).grows i b l ring.hb q in
         record {
           run = o.running;
           from = s.from;
@@ -452,8 +459,8 @@ module _ (n b : ℕ) (size : is_size n ≡ true) (four : 4 ≤ n) (hb : b < n) w
       → suspects n p.state.table a b ≡ 1 → Exact n L p.state.table
   spread-exact begins p from knows last i k h hk l d =
       let same : k ≡ b = by_cases (ℕ_discrete k b) (λ q. q) (λ q. absurd (true≢false (sym (lives k q) ∙ d))) in
-      let fits = begins-fits n b begins hb from in
-      let far = place-of n b begins hb from (n - 1) (omega arith) in
+      let fits = begins-fits n b begins ring.hb from in
+      let far = place-of n b begins ring.hb from (n - 1) (omega arith) in
       rw same (by_cases (dec_lt (stations_before n begins i) (n - 1)) (knows i h l)
       (λ m.
       let q : i ≡ a = place-one n begins i a fits h a-below (omega (arith, far, place-below n begins i fits h)) in
@@ -478,7 +485,7 @@ module _ (n b : ℕ) (size : is_size n ≡ true) (four : 4 ≤ n) (hb : b < n) w
 
     same : (i : ℕ) → Same i
     same i =
-        let at = crash-same w n b begins q crew hb s.run i in
+        let at = crash-same w n b begins q crew ring.hb s.run i in
         record {
           next = at next_column (omega arith) (omega arith);
           made = at tests_column (omega arith) (omega arith);
@@ -486,7 +493,7 @@ module _ (n b : ℕ) (size : is_size n ≡ true) (four : 4 ≤ n) (hb : b < n) w
         }
 
     on : WentOn w n L v' begins q (crash_at w n q b)
-    on = crash-goes_on w n b begins q crew hb s.run unclosed
+    on = crash-goes_on w n b begins q crew ring.hb s.run unclosed
 
     -- where a has made no test, it tests b
     pub crash-finding : tests_made n v a ≡ 0 → Finding begins (crash_at w n q b)

@@ -1,45 +1,33 @@
 -- A plant under the bus master in which no live board suspects a live one: what a grant with its turn does, and a crash, whatever the wiring.
 -- Assumes nothing.
-use mathlib.Core.Path.{◌≡◌, refl, sym, ap, ◌∙◌}
-use mathlib.Core.Logic.{◌≢◌, by_cases}
-use mathlib.Core.Bool.{Bool, true, false, not, true≢false}
+use mathlib.Core.Path.{◌≡◌, refl, sym, ◌∙◌}
+use mathlib.Core.Bool.{Bool, true, false}
 use mathlib.Core.List.{List}
-use Prim.Native.Nat.{ℕ, suc, ◌+◌, ◌≤◌, ◌<◌}
-use native.Mathlib.Decide.{ℕ_discrete}
+use Prim.Native.Nat.{ℕ, zero, suc, ◌≤◌, ◌<◌}
 use native.Mathlib.Numerals.{add-one}
 use native.Mathlib.Omega.{arith}
-use borrow.Author.Tests.{eqb-true, eqb-false, eq-eqb, ne_eqb}
-use lib.Dec.{eqb}
-use lib.Seq.{ext_get_or}
 use Rattle.std.specs.Prelude.{Ok}
-use Rattle.lists.specs.Sums.{bit}
 use Rattle.lists.proofs.BoolLaws.{by_bool}
-use Rattle.lists.proofs.SearchLaws.{every-all, every-not, list_of-length, list_of-at}
+use Rattle.lists.proofs.SearchLaws.{every-all, every-not}
 use Rattle.table.specs.Sizes.{is_size}
 use Rattle.table.specs.Wiring.{wiring_check}
-use Rattle.table.specs.Table.{head, stride, cell, status_column, next_column, finished_column, tests_column, finished, tests_made, suspects, live, row}
-use Rattle.table.specs.Table.{status_crashed}
+use Rattle.table.specs.Table.{finished}
 use Rattle.table.specs.Rules.{wired_line_rules, not_live, some_live, round_over}
-use Rattle.table.specs.Properties.{exact_row}
 use Rattle.table.proofs.SizeLaws.{size-bounds}
 use Rattle.table.proofs.Accepting.{Accepted}
-use Rattle.table.proofs.CellLaws.{cell_same, cell_other, row-length, row_at, line-holds}
-use Rattle.plant.specs.Turn.{kind_turn, kind_crash, next_test, makes_test, outcome_at, turn, crash}
+use Rattle.table.proofs.CellLaws.{line-holds}
+use Rattle.plant.specs.Turn.{kind_turn, next_test, makes_test, outcome_at, turn}
 use Rattle.plant.specs.Round.{reset_lines, after_round}
 use Rattle.plant.specs.Entry.{state_of, acted, after}
-use Rattle.plant.proofs.RunLaws.{accepted-number}
 use Rattle.plant.proofs.RulesKept.{unfinished-open}
 use Rattle.plant.proofs.RoundLaws.{Reset, reset-cells}
-use Rattle.plant.proofs.StepLines.{leave-lines}
-use Rattle.plant.proofs.TurnHeads.{Heads, turn-heads}
-use Rattle.granter.specs.Grant.{no_grant, waits, following, last_refusal, grant_refusal}
-use Rattle.granter.specs.Drive.{Stand, stand_at, granted_at, grant_turn}
-use Rattle.granter.proofs.GrantLaws.{granted-waits, waits-parts, grant-zero, station-fits, last-below}
-use Rattle.granter.proofs.Fair.{next-going-round}
+use Rattle.plant.proofs.TurnHeads.{Heads}
+use Rattle.granter.specs.Grant.{waits, following, last_refusal}
+use Rattle.granter.specs.Drive.{Stand, stand_at, granted_at, grant_turn, after_grants}
+use Rattle.granter.proofs.GrantLaws.{waits-parts, station-fits}
 use Rattle.detection.proofs.TurnEffect.{Plain, Company, Grown, Exact, TurnKept, turn-effect}
 use Rattle.detection.proofs.RoundKnowledge.{reset-rows}
 use Rattle.single_crash.specs.Sweeps.{turns_made}
-use Rattle.single_crash.specs.Setting.{crash_at, KnownDead}
 use Rattle.single_crash.proofs.Sweeps.{InSweep, sweep-start, Next, Moved, sweep-next}
 use Rattle.single_crash.proofs.SweepLaw.{begins-fits, Going}
 use Rattle.single_crash.proofs.SweepLaw as law
@@ -191,3 +179,9 @@ module _ (w n : ℕ) (L : ℕ → Bool) (crew : Crew w n L) where
     -- and a drive runs on
     pub runs_on : (b : ℕ) × Running w n L b p'
     runs_on = by_bool (round_over n t') (λ over. (_, (closes over).running)) (λ unclosed. (_, (goes_on unclosed).running))
+
+  -- after any number of grants
+  pub runs-after : (begins : ℕ) (p : Stand) → Running w n L begins p → (k : ℕ) → (b : ℕ) × Running w n L b (after_grants w n p k)
+  unfolding after_grants
+  runs-after begins p r zero = (begins, r)
+  runs-after begins p r (suc k) = let before = runs-after begins p r k in runs_on before.0 (after_grants w n p k) before.1

@@ -1,10 +1,10 @@
 -- A grant with its turn, whatever the wiring and whoever suspects whom; and that grants go in sweeps.
 -- Assumes nothing.
-use mathlib.Core.Path.{◌≡◌, refl, sym, ◌∙◌}
+use mathlib.Core.Path.{◌≡◌, refl}
 use mathlib.Core.Logic.{by_cases}
 use mathlib.Core.Bool.{true, false, ◌&&◌}
 use mathlib.Core.List.{List}
-use Prim.Native.Nat.{ℕ, zero, suc, ◌+◌, ◌≤◌, ◌<◌}
+use Prim.Native.Nat.{ℕ, zero, suc, ◌≤◌, ◌<◌}
 use native.Mathlib.Decide.{ℕ_discrete}
 use native.Mathlib.Omega.{arith}
 use borrow.Author.Tests.{eqb-true, eqb-false}
@@ -25,7 +25,7 @@ use Rattle.plant.proofs.RoundLaws.{reset-other}
 use Rattle.plant.proofs.RunLaws.{accepted-number}
 use Rattle.plant.proofs.TurnHeads.{Heads, turn-heads}
 use Rattle.granter.specs.Grant.{no_grant, waits, following, last_refusal, grant_refusal}
-use Rattle.granter.specs.Drive.{Stand, stand_at, granted_at, grant_turn, after_grants, ended, ended_after}
+use Rattle.granter.specs.Drive.{Stand, granted_at, grant_turn, after_grants, ended, ended_after}
 use Rattle.granter.proofs.GrantLaws.{granted-waits, waits-parts, grantable, grant-zero, station-fits, last-below, turn-taken}
 use Rattle.granter.proofs.DriveLaws.{not-ended}
 use Rattle.granter.proofs.Fair.{next-going-round}

@@ -2,4 +2,5 @@
 pub mod Cube
 pub mod Sweeps
 pub mod Setting
+pub mod Drives
 pub mod Ring

@@ -5,7 +5,7 @@ use Rattle.table.specs.Sizes.{is_size}
 use Rattle.table.specs.Wiring.{wiring_ring}
 use Rattle.single_crash.specs.Setting.{KnownInGrants, KnownInRounds}
 
--- Rule One dead board on the ring: after 5n − 8 grants at the latest, and in the third round
+-- Rule One dead board on the ring: it is known after 5n − 8 grants, and when the third round closes, that of the crash being the first
 abbrev pub RingInGrants : Type 0
 RingInGrants = (n : ℕ) → 4 ≤ n → KnownInGrants wiring_ring n (5 * n - 8)
 

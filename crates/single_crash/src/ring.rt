@@ -4,9 +4,9 @@ ghost use Rattle.single_crash.specs.Ring.{RingInGrants, RingInRounds, RingNoFewe
 
 // One dead board on the ring, from four boards on (specs/Ring.antt).
 pub fn one_dead_on_ring()
-    // It is known everywhere after 5n − 8 grants.
+    // It is known 5n − 8 grants after its crash.
     ensures in_grants { RingInGrants }
-    // And in the third round at the latest.
+    // And when the third round closes.
     ensures in_rounds { RingInRounds }
     // At no size is one grant fewer enough.
     ensures no_fewer_grants { RingNoFewerGrants }
