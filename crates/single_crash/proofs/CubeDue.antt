@@ -14,7 +14,7 @@ use lib.ListN.{length}
 use lib.Pow.{pow_pos, pow_mono, high}
 use Rattle.lists.specs.Search.{least}
 use Rattle.lists.proofs.BoolLaws.{by_bool}
-use Rattle.lists.proofs.SearchLaws.{every-at, least-is, least-none}
+use Rattle.lists.proofs.SearchLaws.{every-at, every-all, least-is, least-none}
 use Rattle.lists.proofs.Xor.{xor-cancel}
 use Rattle.table.proofs.Levels.{level-split}
 use Rattle.station.specs.Groups.{station_at, width, member}
@@ -98,6 +98,23 @@ module _ (d : ℕ) (r : List ℕ) (i b : ℕ) (few : Few d r i b) where
       let whole = ((due-digits r i h (suc k) small).0 is_due).2 g set in
       let is = whole-is g (omega (arith, digit-below h g (suc k) small set)) whole in
       inr (omega (arith, rw is.0 at t.3), is.1)
+
+  -- where it suspects b the second one is due for that board
+  pub second-due : (h : ℕ) → 1 ≤ h → h < d → unsuspected r b ≡ false → station_at i 1 ≡ b → due r i (2 ^ h + 1) ≡ true
+  unfolding suspects_group width member
+  second-due h some l dead at =
+      let one : 1 < 2 ^ h = omega (arith, pow_mono {i = 1} {j = h} some) in
+      let small : 2 ^ h + 1 < 2 ^ suc h = omega arith in
+      let there : stands r i (2 ^ h + 1) ≡ true = rw few.long (lt-ltb (station_at i (2 ^ h + 1)) (2 ^ d) (present (2 ^ h + 1) h small l)) in
+      let group : suspects_group r i 1 ≡ true =
+      every-all (λ k. not (unsuspected r (station_at i (2 ^ 0 + k)))) (2 ^ 0) (λ k m.
+      let first : 2 ^ 0 + k ≡ 1 = omega arith in
+      rw (first, at, dead) refl) in
+      (due-digits r i h 1 one).1 (
+        few.clear i few.here few.apart,
+        there,
+        λ g s. let zero : g ≡ 0 = omega (arith, digit-below 1 g 1 (omega arith) s) in rw zero group,
+      )
 
   -- so from its next distance on none is due before the first of the next level
   undue : (t y : ℕ) → t ≤ d → station_at i 1 ≢ b → pace t ≤ y → y < 2 ^ t → due r i y ≡ false

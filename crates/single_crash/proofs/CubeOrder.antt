@@ -23,7 +23,7 @@ place-first : (n : ℕ) → stations_before n 5 5 ≡ 0
 unfolding stations_before
 place-first n = refl
 
-place-last : (n : ℕ) → 5 ≤ n → stations_before n 5 4 ≡ n - 1
+pub place-last : (n : ℕ) → 5 ≤ n → stations_before n 5 4 ≡ n - 1
 unfolding stations_before
 place-last n h = omega arith
 

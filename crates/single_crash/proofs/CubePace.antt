@@ -4,7 +4,7 @@ use mathlib.Core.Path.{◌≡◌, refl, sym, ◌∙◌}
 use mathlib.Core.Logic.{◌≢◌, by_cases}
 use mathlib.Core.Bool.{Bool, true, false, true≢false}
 use mathlib.Core.List.{List}
-use Prim.Native.Nat.{ℕ, suc, ◌+◌, ◌^◌, ◌≤◌, ◌<◌}
+use Prim.Native.Nat.{ℕ, suc, ◌+◌, ◌-◌, ◌^◌, ◌≤◌, ◌<◌}
 use native.Mathlib.Decide.{ℕ_discrete, dec_lt}
 use native.Mathlib.Numerals.{add-one}
 use native.Mathlib.Omega.{arith}
@@ -12,6 +12,7 @@ use borrow.Author.Tests.{eq-eqb, lt-ltb, le-ltb}
 use lib.Bits.{xor_lt}
 use lib.Pow.{pow_pos, pow_mono}
 use Rattle.lists.proofs.BoolLaws.{by_bool}
+use Rattle.lists.proofs.SearchLaws.{least-is}
 use Rattle.table.specs.Sizes.{is_size}
 use Rattle.table.specs.Wiring.{end_distance}
 use Rattle.table.proofs.SizeLaws.{size-distances, distances-le}
@@ -20,6 +21,7 @@ use Rattle.table.specs.Table.{next_distance, finished, tests_made, suspects, row
 use Rattle.table.proofs.CellLaws.{row-length}
 use Rattle.table.specs.declared.wiring.Wiring.TheVariants.{Cube}
 use Rattle.station.specs.Groups.{station_at}
+use Rattle.station.specs.Tests.{due}
 use Rattle.station.specs.Wired.{next_after}
 use Rattle.plant.specs.Turn.{next_test, makes_test}
 use Rattle.plant.proofs.NextTest.{cube-next}
@@ -132,6 +134,15 @@ module _ (n d : ℕ) (c : Cubic n d) (t : List ℕ) (i z : ℕ) (few : Few d (ro
   makes-none : next_test Cube n t i ≡ 2 ^ d → makes_test Cube n t i ≡ false
   unfolding makes_test
   makes-none e = rw (end, e) (le-ltb (2 ^ d) (2 ^ d) (omega arith))
+
+  -- where its next distance is due it tests there
+  pub due-now : (m : ℕ) → next_distance n t i ≡ m → m < 2 ^ d → due (row n t i) i m ≡ true
+      → (makes_test Cube n t i ≡ true) × (next_test Cube n t i ≡ m)
+  due-now m e l is_due =
+      let at : next_test Cube n t i ≡ m =
+      cube-next Cube n t i refl
+      ∙ rw (end, e) (least-is (due (row n t i) i) (2 ^ d - m) m m (omega arith) (omega arith) is_due (λ y lo hi. absurd (omega arith))) in
+      (makes (omega (arith, at)), at)
 
   module _ (unfinished : finished n t i ≡ 0) where
     -- a test of a board that is on pace

@@ -1,4 +1,4 @@
--- The laws that the proofs of `single_crash` share.
+-- The laws that the proofs of `single_crash` share: of grants and sweeps, of the crash, then of the ring and of the cube.
 pub mod Sweeps
 pub mod SweepLaw
 pub mod Running
@@ -27,5 +27,7 @@ pub mod CubeCrash
 pub mod CubeWhole
 pub mod CubeKnown
 pub mod CubeOrder
-pub mod CubeSlowest
+pub mod CubeOpening
+pub mod CubeLate
+pub mod CubeReach
 pub mod BoundLaws

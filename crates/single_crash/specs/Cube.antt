@@ -1,6 +1,7 @@
 -- What is claimed of one dead board under the bus master on the cube, at sizes that are powers of two.
 -- Assumes nothing.
-use Rattle.std.specs.Prelude.{◌≡◌, ℕ, ◌+◌, ◌-◌, ◌*◌, ◌^◌, ◌≤◌}
+use Rattle.std.specs.Prelude.{◌≡◌, true, ℕ, ◌+◌, ◌-◌, ◌*◌, ◌^◌, ◌≤◌}
+use Rattle.table.specs.Sizes.{is_size}
 use Rattle.single_crash.specs.Setting.{KnownInGrants, KnownInRounds}
 use Rattle.table.specs.declared.wiring.Wiring.TheVariants.{Cube}
 
@@ -13,6 +14,9 @@ CubeInGrants = (n d : ℕ) → 2 ≤ d → n ≡ 2 ^ d → KnownInGrants Cube n 
 abbrev pub CubeInRounds : Type 0
 CubeInRounds = (n d : ℕ) → 2 ≤ d → n ≡ 2 ^ d → KnownInRounds Cube n 2
 
--- and with 8 boards 34 grants are needed: one fewer is not enough
-abbrev pub CubeNoFewer : Type 0
-CubeNoFewer = ¬ (KnownInGrants Cube 8 33)
+-- from 8 boards on one grant fewer is not enough, nor is one round, whatever the size
+abbrev pub CubeNoFewerGrants : Type 0
+CubeNoFewerGrants = (n d : ℕ) → is_size n ≡ true → 3 ≤ d → n ≡ 2 ^ d → ¬ (KnownInGrants Cube n ((n - 1) * (d + 2) - 2))
+
+abbrev pub CubeNoFewerRounds : Type 0
+CubeNoFewerRounds = (n d : ℕ) → is_size n ≡ true → 3 ≤ d → n ≡ 2 ^ d → ¬ (KnownInRounds Cube n 1)
