@@ -3,7 +3,7 @@
 -- Assumes nothing.
 use mathlib.Core.Path.{◌≡◌, refl, sym, ap, ◌∙◌}
 use mathlib.Core.Logic.{◌≢◌, by_cases}
-use mathlib.Core.Bool.{Bool, true, false, cond, not}
+use mathlib.Core.Bool.{true, cond}
 use mathlib.Core.List.{List}
 use Prim.Native.Nat.{ℕ, zero, suc, ◌+◌, ◌*◌, ◌-◌, ◌%◌, ◌^◌, ◌≤◌, ◌<◌}
 use native.Mathlib.Nat.{mul-suc, suc-mul, mod-eq_of_lt, mod-eq-sub-mod}
@@ -19,7 +19,7 @@ use Rattle.lists.proofs.SumLaws.{sum_by, sum-add, sum-single, sum-const}
 use Rattle.lists.proofs.Xor.{xor-cancel}
 use Rattle.table.specs.Sizes.{level}
 use Rattle.table.specs.Wiring.{wiring_cube}
-use Rattle.table.specs.Table.{finished, tests_made, suspects}
+use Rattle.table.specs.Table.{finished, tests_made}
 use Rattle.table.proofs.Levels.{level-split, level-bounds}
 use Rattle.station.specs.Groups.{distance, station_at}
 use Rattle.slots.proofs.Counts.{sum-le}
@@ -33,7 +33,7 @@ use Rattle.single_crash.proofs.Passes.{turns_left}
 use Rattle.single_crash.proofs.CubePace.{Cubic, OnPace}
 use Rattle.single_crash.proofs.CubeWays.{Multiple, by_distance, distance-some, distance-beside, multiple-above}
 use Rattle.single_crash.proofs.CubeRun.{cube-crew, four}
-use Rattle.single_crash.proofs.CubeStages.{left_with, turns_to, left_to, but-apart}
+use Rattle.single_crash.proofs.CubeStages.{left_with, but-apart}
 
 -- how many grants are enough
 abbrev pub enough : ℕ → ℕ → ℕ

@@ -1,8 +1,8 @@
 -- The cube: a sound plant of 2^d boards in which one crashes, from its start until the board is known everywhere.
 -- Assumes nothing.
-use mathlib.Core.Path.{◌≡◌, refl, sym, ap, ◌∙◌}
+use mathlib.Core.Path.{◌≡◌, refl, sym, ◌∙◌}
 use mathlib.Core.Logic.{◌≢◌, by_cases}
-use mathlib.Core.Bool.{Bool, true, false, cond}
+use mathlib.Core.Bool.{true, cond}
 use mathlib.Core.List.{List}
 use Prim.Native.Nat.{ℕ, zero, suc, ◌+◌, ◌*◌, ◌-◌, ◌^◌, ◌≤◌, ◌<◌}
 use native.Mathlib.Nat.{mul-suc, mod-one}
@@ -11,29 +11,29 @@ use native.Mathlib.Omega.{arith}
 use Rattle.lists.proofs.BoolLaws.{by_bool}
 use Rattle.lists.proofs.SumLaws.{sum_by}
 use Rattle.table.specs.Wiring.{wiring_cube}
-use Rattle.table.specs.Table.{head, stride, cell, next_column, finished_column, tests_column, finished, tests_made, suspects}
+use Rattle.table.specs.Table.{head, stride, cell, next_column, finished_column, tests_column, tests_made, suspects}
 use Rattle.table.specs.Rules.{round_over}
 use Rattle.table.proofs.CellLaws.{accepted-line}
 use Rattle.plant.specs.Turn.{kind_turn, turn, crash}
 use Rattle.plant.proofs.RoundLaws.{Reset}
 use Rattle.station.specs.Groups.{distance}
 use Rattle.slots.proofs.Counts.{sum-le}
-use Rattle.granter.specs.Grant.{waits, following}
+use Rattle.granter.specs.Grant.{waits}
 use Rattle.granter.specs.Drive.{Stand, granted_at, grant_turn, after_grants}
 use Rattle.granter.proofs.GrantLaws.{Grantable, grantable, waits-parts}
 use Rattle.detection.proofs.DetectionClaim.{first_round}
-use Rattle.detection.proofs.TurnEffect.{Plain, Exact}
+use Rattle.detection.proofs.TurnEffect.{Plain}
 use Rattle.single_crash.specs.Sweeps.{turns_made}
-use Rattle.single_crash.specs.Setting.{Sound, crash_at, behind_crash, RoundsSince, KnownDead}
+use Rattle.single_crash.specs.Setting.{Sound, crash_at, behind_crash, KnownDead}
 use Rattle.single_crash.specs.Cube.{CubeInGrants, CubeInRounds}
-use Rattle.single_crash.proofs.Running.{Crew, Running, chosen, going, heads, closes, goes_on, begin}
-use Rattle.single_crash.proofs.Crashing.{everyone, all_but, crash-plain, crash-same, crash-closes, crash-goes_on, known-dead}
+use Rattle.single_crash.proofs.Running.{Crew, Running, closes, goes_on, begin}
+use Rattle.single_crash.proofs.Crashing.{everyone, all_but, crash-same, crash-closes, crash-goes_on, known-dead}
 use Rattle.single_crash.proofs.Passes.{turns_left}
-use Rattle.single_crash.proofs.CubePace.{Cubic, few-none, beside-none, OnPace, pace-start, pace-same, pace-own, pace-paced}
-use Rattle.single_crash.proofs.CubeWays.{by_digits, by_distance, distance-some, beside-of, digits-all}
-use Rattle.single_crash.proofs.CubeRun.{OthersLive, cube-crew, four, pace-turn}
+use Rattle.single_crash.proofs.CubePace.{Cubic, OnPace, pace-start, pace-same, pace-paced}
+use Rattle.single_crash.proofs.CubeWays.{by_distance, distance-some, beside-of, digits-all}
+use Rattle.single_crash.proofs.CubeRun.{cube-crew, four}
 use Rattle.single_crash.proofs.CubeWhole.{Whole, full_crew, whole-after}
-use Rattle.single_crash.proofs.CubeStages.{turns_to, left_to, left_with, but-others, but-apart, Spread, Gather, AllAware, spread-less, spread-on}
+use Rattle.single_crash.proofs.CubeStages.{turns_to, left_to, left_with, but-others, Spread, Gather, AllAware, spread-less, spread-on}
 use Rattle.single_crash.proofs.CubeStages.{spread-over, spread-left, gather-less, gather-on, gather-over, gather-aware, aware-on}
 use Rattle.single_crash.proofs.CubeCrash.{enough, but-one, level-over, Cut, cut}
 
@@ -151,11 +151,11 @@ module _ (n d b : ℕ) (c : Cubic n d) (hb : b < n) (round : ℕ) where
       running = run;
       pace = rw is crash-pace;
       near = rw is (record {
-          behind = λ z h hz l e.
-              let zero : h ≡ 0 = omega arith in
-              omega (arith, zero, crash-tests z, found.begun some z hz (beside-of z b (rw zero at e)));
-          aware = λ x h e one. absurd (omega (arith, nobody x h));
-        });
+        behind = λ z h hz l e.
+            let zero : h ≡ 0 = omega arith in
+            omega (arith, zero, crash-tests z, found.begun some z hz (beside-of z b (rw zero at e)));
+        aware = λ x h e one. absurd (omega (arith, nobody x h));
+      });
       learned = rw is (λ x h e whole few. absurd (omega (arith, crash-tests x, found.ahead x h e whole)));
     }
 

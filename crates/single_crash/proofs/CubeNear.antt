@@ -5,7 +5,7 @@ use mathlib.Core.Path.{◌≡◌, refl, sym, ap, ◌∙◌}
 use mathlib.Core.Logic.{◌≢◌, by_cases}
 use mathlib.Core.Bool.{Bool, true, false}
 use mathlib.Core.List.{List}
-use Prim.Native.Nat.{ℕ, suc, ◌+◌, ◌^◌, ◌%◌, ◌≤◌, ◌<◌}
+use Prim.Native.Nat.{ℕ, suc, ◌^◌, ◌≤◌, ◌<◌}
 use native.Mathlib.Nat.{mod-eq_of_lt}
 use native.Mathlib.Decide.{ℕ_discrete, dec_lt}
 use native.Mathlib.Omega.{arith}
@@ -21,7 +21,6 @@ use Rattle.station.proofs.WiredLaws.{cube-station}
 use Rattle.plant.specs.Turn.{kind_turn, next_test, makes_test, turn}
 use Rattle.plant.proofs.NextTest.{test-station}
 use Rattle.granter.specs.Drive.{Stand, granted_at}
-use Rattle.detection.proofs.TurnEffect.{Plain}
 use Rattle.single_crash.proofs.Running.{Running, Crew, chosen, is_live, going, heads}
 use Rattle.witness.proofs.Moves.{finish-bytes, test-bytes}
 use Rattle.single_crash.proofs.Heard.{Heard, had, found, told_by_tester, told_by_tested, heard}

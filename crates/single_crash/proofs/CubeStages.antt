@@ -1,12 +1,12 @@
 -- On the cube, from the crash of b on: first the rest of its round, in which the boards at multiples of 2^s from b learn of it; then the first s
 -- sweeps of the next round, in which all others do; and how many grants are left until then.
 -- Assumes nothing.
-use mathlib.Core.Path.{◌≡◌, refl, sym, ap, ◌∙◌}
+use mathlib.Core.Path.{◌≡◌, refl, sym, ◌∙◌}
 use mathlib.Core.Logic.{◌≢◌, by_cases}
-use mathlib.Core.Bool.{Bool, true, false, cond, not, true≢false}
+use mathlib.Core.Bool.{Bool, true, false, cond, true≢false}
 use mathlib.Core.List.{List}
-use Prim.Native.Nat.{ℕ, zero, suc, ◌+◌, ◌-◌, ◌≤◌, ◌<◌}
-use native.Mathlib.Decide.{ℕ_discrete, dec_lt}
+use Prim.Native.Nat.{ℕ, suc, ◌+◌, ◌-◌, ◌≤◌, ◌<◌}
+use native.Mathlib.Decide.{ℕ_discrete}
 use native.Mathlib.Omega.{arith}
 use borrow.Author.Tests.{eqb-true, eq-eqb, ne_eqb, not-false}
 use lib.Dec.{eqb}
@@ -14,19 +14,18 @@ use Rattle.lists.specs.Sums.{sum_below, bit}
 use Rattle.lists.proofs.BoolLaws.{by_bool}
 use Rattle.lists.proofs.SumLaws.{sum-add, sum-single}
 use Rattle.table.specs.Wiring.{wiring_cube}
-use Rattle.table.specs.Table.{finished, tests_made, suspects}
+use Rattle.table.specs.Table.{finished, suspects}
 use Rattle.table.specs.Rules.{round_over}
 use Rattle.plant.specs.Turn.{kind_turn, turn}
-use Rattle.plant.proofs.RoundLaws.{Reset}
 use Rattle.slots.proofs.Counts.{sum-le}
 use Rattle.granter.specs.Grant.{waits}
-use Rattle.granter.specs.Drive.{Stand, granted_at, grant_turn, after_grants}
+use Rattle.granter.specs.Drive.{Stand, granted_at, grant_turn}
 use Rattle.granter.proofs.GrantLaws.{waits-parts}
-use Rattle.detection.proofs.TurnEffect.{Plain, Exact}
+use Rattle.detection.proofs.TurnEffect.{Exact}
 use Rattle.detection.proofs.RoundKnowledge.{all-finished}
 use Rattle.single_crash.specs.Sweeps.{turns_made}
 use Rattle.single_crash.proofs.Sweeps.{Moved}
-use Rattle.single_crash.proofs.Running.{Crew, Running, Closed, WentOn, chosen, is_live, going, kept, heads, moved, closes, goes_on, stays_known, runs_on}
+use Rattle.single_crash.proofs.Running.{Crew, Running, Closed, chosen, is_live, going, kept, heads, moved, closes, goes_on, stays_known, runs_on}
 use Rattle.single_crash.proofs.Crashing.{all_but}
 use Rattle.single_crash.proofs.Passes.{turns_left, left-turn}
 use Rattle.single_crash.proofs.OnRing.{left_of}

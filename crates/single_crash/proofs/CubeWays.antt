@@ -7,11 +7,11 @@ use Prim.Native.Nat.{ℕ, suc, ◌+◌, ◌*◌, ◌-◌, ◌/◌, ◌%◌, ◌^
 use native.Mathlib.Nat.{mod-eq_of_lt, mod-lt, mod-le, mul-mod_left}
 use native.Mathlib.Decide.{ℕ_discrete, dec_lt}
 use native.Mathlib.Omega.{arith}
-use lib.Bits.{bit_xor, xor_lt, xor_shr, xor_mod, xor_comm, xor_zero_r}
+use lib.Bits.{bit_xor, xor_lt, xor_mod, xor_comm}
 use lib.Pow.{pow_pos, pow_mono, pow-add, high}
 use Rattle.lists.proofs.Xor.{Near, xor_assoc, xor-cancel, xor-zero-eq, xor-of-near}
 use Rattle.table.specs.Sizes.{level}
-use Rattle.table.proofs.Levels.{level-zero, level-le, level-is, level-split, level-bounds}
+use Rattle.table.proofs.Levels.{level-le, level-split, level-bounds}
 use Rattle.station.specs.Groups.{distance, station_at}
 use Rattle.single_crash.proofs.CubePace.{Cubic}
 use Rattle.single_crash.proofs.CubeLearn.{Way}

@@ -1,10 +1,8 @@
 -- On the cube of 2^d boards before the crash, where every board is live and nobody suspects anybody: each board stays on pace.
 -- Assumes nothing.
-use mathlib.Core.Path.{◌≡◌, refl, sym, ◌∙◌}
-use mathlib.Core.Bool.{Bool, true, false}
+use mathlib.Core.Path.{refl}
 use mathlib.Core.List.{List}
-use Prim.Native.Nat.{ℕ, zero, suc, ◌+◌, ◌≤◌, ◌<◌}
-use native.Mathlib.Omega.{arith}
+use Prim.Native.Nat.{ℕ, zero, suc, ◌<◌}
 use Rattle.lists.proofs.BoolLaws.{by_bool}
 use Rattle.table.specs.Wiring.{wiring_cube}
 use Rattle.table.specs.Rules.{round_over}
