@@ -3,18 +3,18 @@
 -- Assumes nothing.
 use mathlib.Core.Path.{◌≡◌, refl, sym, ap, subst, ◌∙◌}
 use mathlib.Core.Logic.{◌≢◌, by_cases}
-use mathlib.Core.Bool.{Bool, true, false}
+use mathlib.Core.Bool.{true, false}
 use mathlib.Core.List.{List}
 use Prim.Native.Nat.{ℕ, zero, suc, ◌+◌, ◌*◌, ◌-◌, ◌%◌, ◌^◌, ◌≤◌, ◌<◌}
 use native.Mathlib.Nat.{mul-suc, suc-mul}
-use native.Mathlib.Decide.{ℕ_discrete, dec_lt}
+use native.Mathlib.Decide.{ℕ_discrete}
 use native.Mathlib.Omega.{arith}
-use borrow.Author.Tests.{eq-eqb, ne_eqb}
+use borrow.Author.Tests.{ne_eqb}
 use lib.Bits.{bit_xor}
 use lib.ListN.{get_or}
 use lib.Pow.{pow_mono}
 use Rattle.lists.specs.Search.{list_of}
-use Rattle.lists.specs.Sums.{sum_below, bit}
+use Rattle.lists.specs.Sums.{bit}
 use Rattle.lists.proofs.BoolLaws.{by_bool}
 use Rattle.lists.proofs.SearchLaws.{list_of-at}
 use Rattle.lists.proofs.SumLaws.{sum_by, sum-add, sum-const}
@@ -36,12 +36,11 @@ use Rattle.granter.specs.Drive.{Stand, stand_at, granted_at, grant_turn, after_g
 use Rattle.granter.proofs.GrantLaws.{station-fits}
 use Rattle.detection.proofs.RoundKnowledge.{all-finished}
 use Rattle.single_crash.specs.Sweeps.{turns_made}
-use Rattle.single_crash.specs.Setting.{Sound, crash_at, behind_crash, RoundsSince, KnownDead}
+use Rattle.single_crash.specs.Setting.{Sound, crash_at, behind_crash, KnownDead}
 use Rattle.single_crash.specs.Cube.{CubeNoFewerGrants, CubeNoFewerRounds}
 use Rattle.single_crash.proofs.Running.{Crew, Running, chosen, is_live, kept, heads, moved, closes, goes_on, begin}
-use Rattle.single_crash.proofs.Crashing.{everyone, all_but, crash-plain, crash-same, crash-goes_on, crash-turns}
+use Rattle.single_crash.proofs.Crashing.{everyone, crash-plain, crash-same, crash-goes_on, crash-turns}
 use Rattle.single_crash.proofs.Passes.{turns_left, left-turn}
-use Rattle.single_crash.proofs.OnRing.{left_of}
 use Rattle.single_crash.proofs.RingStages.{at_place, sum-at}
 use Rattle.single_crash.proofs.FreshSound.{fresh-is-sound}
 use Rattle.single_crash.proofs.CubePace.{Cubic, OnPace, pace-start, pace-same, pace-paced}
@@ -159,10 +158,10 @@ module _ (n d : ℕ) (c : Cubic n d) (three : 3 ≤ d) (eight : 8 ≤ n) where
             running = rw behind-four at run;
             paced = λ i h q. pace-paced n d 1 c _ i (pace-start n d _ i (w.fresh i h));
             early = record {
-                going = λ l. zero.unfinished;
-                next = λ l. omega (arith, zero.next, zero.untested, zero.unfinished);
-                aware = λ l. absurd (omega (arith, zero.untested, zero.unfinished));
-              };
+              going = λ l. zero.unfinished;
+              next = λ l. omega (arith, zero.next, zero.untested, zero.unfinished);
+              aware = λ l. absurd (omega (arith, zero.untested, zero.unfinished));
+            };
             near = λ z hz q few x hx a one. omega (arith, unaware' x hx a one);
             unaware = λ l. omega (arith, not_one, (w.running.plain.lines.1 4 (omega arith)).range 1 (omega arith));
           }
