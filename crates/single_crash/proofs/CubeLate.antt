@@ -3,22 +3,20 @@
 -- Assumes nothing.
 use mathlib.Core.Path.{◌≡◌, refl, sym, ap, subst, ◌∙◌}
 use mathlib.Core.Logic.{◌≢◌, by_cases}
-use mathlib.Core.Bool.{Bool, true, false, cond, not}
+use mathlib.Core.Bool.{Bool, true, false}
 use mathlib.Core.List.{List}
-use Prim.Native.Nat.{ℕ, zero, suc, ◌+◌, ◌*◌, ◌-◌, ◌%◌, ◌^◌, ◌≤◌, ◌<◌}
+use Prim.Native.Nat.{ℕ, suc, ◌+◌, ◌%◌, ◌^◌, ◌≤◌, ◌<◌}
 use native.Mathlib.Nat.{mul-zero, mod-eq_of_lt}
 use native.Mathlib.Decide.{ℕ_discrete, dec_lt}
-use native.Mathlib.Numerals.{add-one}
 use native.Mathlib.Omega.{arith}
-use borrow.Author.Tests.{eq-eqb, ne_eqb}
+use borrow.Author.Tests.{ne_eqb}
 use lib.Bits.{bit_xor, xor_mod, xor_lt}
 use lib.Pow.{pow_mono, pow-lt}
-use Rattle.lists.specs.Sums.{sum_below}
 use Rattle.lists.proofs.BoolLaws.{by_bool}
 use Rattle.lists.proofs.SumLaws.{sum_by, sum-const}
 use Rattle.lists.proofs.Xor.{xor-cancel, xor-undo}
 use Rattle.table.specs.declared.wiring.Wiring.TheVariants.{Cube}
-use Rattle.table.specs.Table.{next_column, finished_column, tests_column, next_distance, finished, tests_made, suspects, row}
+use Rattle.table.specs.Table.{next_column, finished_column, next_distance, finished, tests_made, suspects, row}
 use Rattle.table.specs.Rules.{round_over}
 use Rattle.station.specs.Groups.{distance, station_at}
 use Rattle.station.specs.Tests.{unsuspected, due}
@@ -30,7 +28,7 @@ use Rattle.granter.specs.Grant.{waits}
 use Rattle.granter.specs.Fairness.{stations_before}
 use Rattle.granter.specs.Drive.{Stand, granted_at, grant_turn}
 use Rattle.detection.proofs.TestsDue.{row-unsuspected}
-use Rattle.detection.proofs.TurnEffect.{Plain, Row, Tested}
+use Rattle.detection.proofs.TurnEffect.{Row, Tested}
 use Rattle.detection.proofs.RoundKnowledge.{all-finished}
 use Rattle.witness.proofs.Moves.{finish-bytes, test-bytes}
 use Rattle.single_crash.specs.Sweeps.{turns_made}

@@ -1,20 +1,20 @@
 -- On the cube, the slowest plant before the crash: behind last granted number 4 board 5 has made three turns after 2n + 1 grants, and boards 1 and 4
 -- two, with nobody behind them.
 -- Assumes nothing.
-use mathlib.Core.Path.{◌≡◌, refl, sym, ap, ◌∙◌}
+use mathlib.Core.Path.{◌≡◌, refl, ◌∙◌}
 use mathlib.Core.Logic.{◌≢◌, by_cases}
-use mathlib.Core.Bool.{Bool, true, false}
+use mathlib.Core.Bool.{true}
 use mathlib.Core.List.{List}
 use Prim.Native.Nat.{ℕ, zero, suc, ◌+◌, ◌*◌, ◌-◌, ◌≤◌, ◌<◌}
 use native.Mathlib.Nat.{mul-suc, suc-mul, mul-zero}
 use native.Mathlib.Decide.{ℕ_discrete, dec_lt}
 use native.Mathlib.Omega.{arith}
-use borrow.Author.Tests.{eq-eqb, ne_eqb}
+use borrow.Author.Tests.{ne_eqb}
 use Rattle.lists.specs.Sums.{sum_below}
 use Rattle.lists.proofs.BoolLaws.{by_bool}
 use Rattle.lists.proofs.SumLaws.{sum_by, sum-add, sum-const}
 use Rattle.table.specs.declared.wiring.Wiring.TheVariants.{Cube}
-use Rattle.table.specs.Table.{finished, tests_made}
+use Rattle.table.specs.Table.{finished}
 use Rattle.table.specs.Rules.{round_over}
 use Rattle.plant.specs.Turn.{kind_turn, turn}
 use Rattle.slots.proofs.Counts.{sum-le}
@@ -23,7 +23,7 @@ use Rattle.granter.specs.Fairness.{stations_before}
 use Rattle.granter.specs.Drive.{Stand, granted_at, grant_turn, after_grants}
 use Rattle.detection.proofs.RoundKnowledge.{all-finished}
 use Rattle.single_crash.specs.Sweeps.{turns_made}
-use Rattle.single_crash.proofs.Running.{Crew, Running, chosen, going, kept, moved, goes_on}
+use Rattle.single_crash.proofs.Running.{Crew, Running, chosen, kept, moved, goes_on}
 use Rattle.single_crash.proofs.Crashing.{everyone}
 use Rattle.single_crash.proofs.Passes.{turns_left, left-turn}
 use Rattle.single_crash.proofs.OnRing.{left_of}
