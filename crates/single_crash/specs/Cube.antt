@@ -1,0 +1,18 @@
+-- What is claimed of one dead board under the bus master on the cube, at sizes that are powers of two.
+-- Assumes nothing.
+use Rattle.std.specs.Prelude.{◌≡◌, ℕ, ◌+◌, ◌-◌, ◌*◌, ◌^◌, ◌≤◌}
+use Rattle.single_crash.specs.Setting.{KnownInGrants, KnownInRounds}
+use Rattle.table.specs.declared.wiring.Wiring.TheVariants.{Cube}
+
+-- Rule One dead board on the cube: with 2^d boards, 4 at least, after (n − 1)(d + 2) − 1 grants at the latest: d + 2 sweeps of the n − 1 boards that
+-- are live, but for one grant
+abbrev pub CubeInGrants : Type 0
+CubeInGrants = (n d : ℕ) → 2 ≤ d → n ≡ 2 ^ d → KnownInGrants Cube n ((n - 1) * (d + 2) - 1)
+
+-- and in the second round, that of the crash being the first
+abbrev pub CubeInRounds : Type 0
+CubeInRounds = (n d : ℕ) → 2 ≤ d → n ≡ 2 ^ d → KnownInRounds Cube n 2
+
+-- and with 8 boards 34 grants are needed: one fewer is not enough
+abbrev pub CubeNoFewer : Type 0
+CubeNoFewer = ¬ (KnownInGrants Cube 8 33)
