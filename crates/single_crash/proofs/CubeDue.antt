@@ -120,7 +120,8 @@ module _ (d : ℕ) (r : List ℕ) (i b : ℕ) (few : Few d r i b) where
   undue : (t y : ℕ) → t ≤ d → station_at i 1 ≢ b → pace t ≤ y → y < 2 ^ t → due r i y ≡ false
   unfolding pace
   undue zero y l far lo hi = absurd (omega arith)
-  undue (suc t) y l far lo hi = by_bool (due r i y) (λ is_due. absurd (neither (due-only t (y - 2 ^ t) (omega arith) (omega arith) (rw place is_due)))) (λ e. e)
+  undue (suc t) y l far lo hi =
+      by_bool (due r i y) (λ is_due. absurd (neither (due-only t (y - 2 ^ t) (omega arith) (omega arith) (rw place is_due)))) (λ e. e)
     where
       place : 2 ^ t + (y - 2 ^ t) ≡ y
       place = omega arith

@@ -137,7 +137,8 @@ module _ (n d : ℕ) (c : Cubic n d) (three : 3 ≤ d) (eight : 8 ≤ n) where
           (λ e.
           let same = (heads Cube n L crew 5 p o.running).others 4 finished_column (λ q. e (sym q)) (omega arith) in
           let last = ended 4 (omega arith) (λ q. omega arith) in
-          let all = turns-ended n d 1 L c others (omega arith) p o.running o.pace 4 (omega arith) (λ q. omega arith) (λ z. omega (arith, z, same, last)) in
+          let all =
+          turns-ended n d 1 L c others (omega arith) p o.running o.pace 4 (omega arith) (λ q. omega arith) (λ z. omega (arith, z, same, last)) in
           absurd (omega (arith, all, o.lag g below apart, granted-most)))
 
       row-same : (x : ℕ) → suspects n p'.state.table x 1 ≡ suspects n t' x 1

@@ -153,7 +153,9 @@ module _ (n d b : ℕ) (c : Cubic n d) (hb : b < n) (s : ℕ) (le : s ≤ d) (p 
           begins = _;
           running = w.running;
           pace = rw w.table spread-pace';
-          near = rw w.table (near-turn n d b (all_but b) c others (but-dead b) hb r.begins p r.running r.pace 1 (omega arith) (omega (arith, c.levels)) r.near);
+          near =
+              rw w.table (near-turn n d b (all_but b) c others (but-dead b) hb r.begins p r.running r.pace 1 (omega arith)
+              (omega (arith, c.levels)) r.near);
           learned = rw w.table spread-learned';
         }
 

@@ -78,7 +78,8 @@ module _ (n d b : ℕ) (c : Cubic n d) (hb : b < n) where
     nearer = λ x h hx apart whole e far.
         let m : ℕ = distance x b in
         let above = multiple-above s m (distance-some x b apart) whole in
-        let top : s ≤ h = by_cases (dec_lt h s) (λ l. omega (arith, above, (level-bounds m h e).1, pow_mono {i = suc h} {j = s} l)) (λ l. omega arith) in
+        let top : s ≤ h =
+        by_cases (dec_lt h s) (λ l. omega (arith, above, (level-bounds m h e).1, pow_mono {i = suc h} {j = s} l)) (λ l. omega arith) in
         let rest : bit_xor m (2 ^ h) % 2 ^ s ≡ 0 =
         xor_mod m (2 ^ h) s ∙ rw (whole, power-multiple s h top) refl in
         (rw (turned x (2 ^ h) b) rest, rw (turned x (2 ^ h) b) (level-le (bit_xor m (2 ^ h)) h (lower m h e)));
@@ -93,7 +94,8 @@ module _ (n d b : ℕ) (c : Cubic n d) (hb : b < n) where
         let u : ℕ = distance x b % 2 ^ s in
         let small : u < 2 ^ s = mod-lt (distance x b) (pow_pos s) in
         let low : 2 ^ h < 2 ^ s = omega (arith, (level-bounds u h e).0) in
-        let same : bit_xor (distance x b) (2 ^ h) % 2 ^ s ≡ bit_xor u (2 ^ h) = xor_mod (distance x b) (2 ^ h) s ∙ ap (bit_xor u) (mod-eq_of_lt low) in
+        let same : bit_xor (distance x b) (2 ^ h) % 2 ^ s ≡ bit_xor u (2 ^ h) =
+        xor_mod (distance x b) (2 ^ h) s ∙ ap (bit_xor u) (mod-eq_of_lt low) in
         (tt, rw (turned x (2 ^ h) b, same) (level-le (bit_xor u (2 ^ h)) h (lower u h e)));
     most = λ x hx apart all. omega (arith, level-le (distance x b % 2 ^ s) s (mod-lt (distance x b) (pow_pos s)), le);
     beside = λ x e. level-le (distance x b % 2 ^ s) 1 (omega (arith, distance-beside x b e, mod-le 1 (2 ^ s)));

@@ -1,4 +1,4 @@
--- One board dies under the bus master: how many grants later, and how many rounds, each other board suspects it. w is the wiring's number, p where
+-- One board dies under the bus master: how many grants later, and how many rounds, each other board suspects it. w is the wiring, p where
 -- the drive stands at first, and b the board that dies.
 -- Assumes nothing.
 use Rattle.std.specs.Prelude.{◌≡◌, true, not, ℕ, ◌+◌, ◌≤◌, ◌<◌, ◌==◌, List}
