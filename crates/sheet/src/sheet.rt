@@ -97,7 +97,7 @@ fn write_under_master<W: fmt::Write>(f: &mut fmt::Formatter<W>, plant: &Plant) -
     match bounds::one_dead_on(Wiring::Cube, plant.size) {
         Some(known) => writeln!(
             f,
-            "Under a bus master: after at most {} rounds, {} grants",
+            "Under a bus master, one board at a time: after at most {} rounds, {} grants",
             known.rounds, known.grants
         ),
         None => Ok(()),
