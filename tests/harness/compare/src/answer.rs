@@ -77,6 +77,12 @@ fn make(name: &str, arguments: &mut [Vec<u8>]) -> u8 {
             put(crash, given.turns_from_crash);
             given.number
         }
+        ("vcube_one_dead", [wiring, n, rounds, grants]) => {
+            let given = simulator::one_dead(wide(wiring), wide(n));
+            put(rounds, given.rounds);
+            put(grants, given.grants);
+            given.number
+        }
         ("vcube_mend", [wiring, n, table, report, changes]) => {
             let (number, count) = simulator::mend(wide(wiring), wide(n), table, report);
             put(changes, count);
