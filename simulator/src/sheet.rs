@@ -181,7 +181,7 @@ fn print_bus_master(plant: &Plant) -> String {
     match proved.filter(|_| plant.dead == Row::EMPTY) {
         None => String::new(),
         Some(OneDead { rounds, grants, .. }) => {
-            format!("Under a bus master: after at most {rounds} rounds, {grants} grants\n")
+            format!("Under a bus master, one board at a time: after at most {rounds} rounds, {grants} grants\n")
         }
     }
 }

@@ -131,7 +131,7 @@ UNUSUAL = [
 
 def front(n, *dead):
     """The lines before the empty one: with nobody dead, at some sizes, there is one on the bus master, else none."""
-    bus_master = '' if dead or n not in UNDER_A_BUS_MASTER else f'Under a bus master: after at most {UNDER_A_BUS_MASTER[n]}\n'
+    bus_master = '' if dead or n not in UNDER_A_BUS_MASTER else f'Under a bus master, one board at a time: after at most {UNDER_A_BUS_MASTER[n]}\n'
     return re.compile(f'{n} boards, dead: {dead[0] if dead else "none"}\nOne more dead board is known everywhere after at most .* grants\n'
                       f'{bus_master}\n(?s:.*)'.encode())
 
