@@ -35,7 +35,7 @@ pub pace_suc : (t : ℕ) → 2 ^ t + 1 ≡ pace (suc t)
 unfolding pace
 pace_suc t = refl
 
-pub pace-low : (t : ℕ) → pace t ≤ 2 ^ t
+pace-low : (t : ℕ) → pace t ≤ 2 ^ t
 unfolding pace
 pace-low zero = omega arith
 pace-low (suc t) = omega (arith, pow_pos t)
@@ -87,7 +87,7 @@ module _ (d : ℕ) (r : List ℕ) (i b : ℕ) (few : Few d r i b) where
       absurd (omega (arith, same))
 
   -- of the distances of a level only the first is due, and the second for the board beside b
-  pub due-only : (h k : ℕ) → k < 2 ^ h → h < d → due r i (2 ^ h + k) ≡ true → (k ≡ 0) ⊎ ((k ≡ 1) × (station_at i 1 ≡ b))
+  due-only : (h k : ℕ) → k < 2 ^ h → h < d → due r i (2 ^ h + k) ≡ true → (k ≡ 0) ⊎ ((k ≡ 1) × (station_at i 1 ≡ b))
   due-only h zero small l is_due = inl refl
   due-only h (suc k) small l is_due =
       let t = level-split (suc k) (omega arith) in

@@ -68,7 +68,7 @@ module _ (n d b : ℕ) (c : Cubic n d) (hb : b < n) (round : ℕ) where
       (λ l. all_know (aware-on n d b c p (gather-aware n d b c hb s le p r (omega arith))))
   phase-next k p (all_know r) = all_know (aware-on n d b c p r)
 
-  pub phase-after : (p : Stand) (g : ℕ) → Phase n d b round 0 p → Phase n d b round g (after_grants Cube n p g)
+  phase-after : (p : Stand) (g : ℕ) → Phase n d b round 0 p → Phase n d b round g (after_grants Cube n p g)
   unfolding after_grants
   phase-after p zero f = f
   phase-after p (suc g) f = phase-next g _ (phase-after p g f)
@@ -77,7 +77,7 @@ module _ (n d b : ℕ) (c : Cubic n d) (hb : b < n) (round : ℕ) where
   aware-dead p r = known-dead Cube n b p.state.table r.running.plain r.exact
 
   -- after so many grants, and so many rounds
-  pub phase-grants : (k : ℕ) (p : Stand) → enough n d ≤ k → Phase n d b round k p → KnownDead n p.state.table b
+  phase-grants : (k : ℕ) (p : Stand) → enough n d ≤ k → Phase n d b round k p → KnownDead n p.state.table b
   phase-grants k p far (same_round s le r e few) = absurd (omega (arith, spread-less n d b c hb s le p r))
   phase-grants k p far (next_round s le r e few) =
       by_cases (dec_lt (turns_made n p.state.table (granted_at n p)) s)
@@ -85,7 +85,7 @@ module _ (n d b : ℕ) (c : Cubic n d) (hb : b < n) (round : ℕ) where
       (λ l. aware-dead p (gather-aware n d b c hb s le p r (omega arith)))
   phase-grants k p far (all_know r) = aware-dead p r
 
-  pub phase-rounds : (k : ℕ) (p : Stand) → round + 2 ≤ p.state.rounds → Phase n d b round k p → KnownDead n p.state.table b
+  phase-rounds : (k : ℕ) (p : Stand) → round + 2 ≤ p.state.rounds → Phase n d b round k p → KnownDead n p.state.table b
   phase-rounds k p far (same_round s le r e few) = absurd (omega (arith, e))
   phase-rounds k p far (next_round s le r e few) = absurd (omega (arith, e))
   phase-rounds k p far (all_know r) = aware-dead p r
@@ -163,7 +163,7 @@ module _ (n d b : ℕ) (c : Cubic n d) (hb : b < n) (round : ℕ) where
     unfolding turns_left
     left-same = sum_by n (λ i h. rw (crash-tests i, bytes i finished_column (omega arith) (omega arith)) refl)
 
-    pub phase-crash : Phase n d b round 0 q'
+    phase-crash : Phase n d b round 0 q'
     phase-crash =
         by_bool (round_over n v)
         (λ over.
@@ -207,7 +207,7 @@ module _ (n d : ℕ) (levels : 2 ≤ d) (power : n ≡ 2 ^ d) (p : Stand) (sound
     abbrev before : Stand
     before = after_grants Cube n p k
 
-    pub sound-phase : Phase n d b before.state.rounds g (behind_crash Cube n p k b g)
+    sound-phase : Phase n d b before.state.rounds g (behind_crash Cube n p k b g)
     sound-phase =
         phase-after n d b sound-cubic hb before.state.rounds (crash_at Cube n before b) g
         (phase-crash n d b sound-cubic hb before.state.rounds before (whole-after n d sound-cubic p k sound-whole) refl)

@@ -1,5 +1,5 @@
--- On the cube, the slowest plant in the round after the crash of board 1: board 4 does not suspect it before its third turn. Board 0, which is beside
--- board 1 and would tell it, tests at distance 3 when the others test at distance 4.
+-- On the cube, the slowest plant in the round after that of the crash of board 1: board 4 does not suspect it before its third turn. Board 0, which
+-- is beside board 1 and would tell board 4, tests at distance 3 when the others test at distance 4.
 -- Assumes nothing.
 use mathlib.Core.Path.{◌≡◌, refl, sym, ap, subst, ◌∙◌}
 use mathlib.Core.Logic.{◌≢◌, by_cases}

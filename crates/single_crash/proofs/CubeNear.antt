@@ -93,7 +93,7 @@ module _ (n d b : ℕ) (L : ℕ → Bool) (c : Cubic n d) (others : OthersLive n
   pub near-pace : (i : ℕ) → i < n → i ≢ b → OnPace n d t' i
   near-pace i h q = pace-turn n d b L c others begins p r (by_place (OnPace n d t g → OnPace n d t' g) own-pace) i (pace i h q)
 
-  pub near-test : makes_test Cube n t g ≡ true → next_test Cube n t g ≡ 2 ^ made
+  near-test : makes_test Cube n t g ≡ true → next_test Cube n t g ≡ 2 ^ made
   near-test = by_place (makes_test Cube n t g ≡ true → next_test Cube n t g ≡ 2 ^ made) own-test
 
   -- where the granted board has made s tests all have

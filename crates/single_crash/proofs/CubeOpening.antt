@@ -78,7 +78,7 @@ module _ (n d : ℕ) (c : Cubic n d) (three : 3 ≤ d) (eight : 8 ≤ n) where
         λ i h. let f = all-finished Cube n everyone t' plain over i h refl in omega (arith, f, (pace' i h).ended f) in
         sum_by n each ∙ (sum-const 0 n ∙ mul-zero n)
 
-    pub opening-next : suc k < n * suc d → Opening n d (suc k) (grant_turn Cube n p)
+    opening-next : suc k < n * suc d → Opening n d (suc k) (grant_turn Cube n p)
     opening-next more =
         by_bool (round_over n t')
         (λ over. absurd (omega (arith, none-left over, one-less, o.counted)))

@@ -39,7 +39,7 @@ pub record Cubic (n d : ℕ) : Type 0 where
   pub levels : 2 ≤ d
 
 -- its end distance
-pub end-power : (n d : ℕ) → Cubic n d → end_distance Cube n ≡ 2 ^ d
+end-power : (n d : ℕ) → Cubic n d → end_distance Cube n ≡ 2 ^ d
 end-power n d c =
     let most = distances-le d n (omega (arith, c.power)) in
     end-cube n ∙ omega (arith, (size-distances n c.size).0, c.power, most)
@@ -87,7 +87,7 @@ pub record Paced (n d b : ℕ) (t : List ℕ) (i : ℕ) : Type 0 where
   pub far : station_at i 1 ≢ b → OnPace n d t i
   pub begins : Begins n t i
 
-pub pace-begins : (n d : ℕ) → Cubic n d → (t : List ℕ) (i : ℕ) → OnPace n d t i → Begins n t i
+pace-begins : (n d : ℕ) → Cubic n d → (t : List ℕ) (i : ℕ) → OnPace n d t i → Begins n t i
 pace-begins n d c t i p = record { first = λ f z. rw z at (p.going f).1 ∙ pace_zero; some = λ f. omega (arith, p.ended f, c.levels) }
 
 pub pace-paced : (n d b : ℕ) → Cubic n d → (t : List ℕ) (i : ℕ) → OnPace n d t i → Paced n d b t i
@@ -199,7 +199,7 @@ module _ (n d : ℕ) (c : Cubic n d) (t : List ℕ) (i z : ℕ) (few : Few d (ro
           })
           (λ e. let m = none e in record { going = λ f. absurd (omega (arith, m.1)); ended = λ f. m.0 ∙ pace-end far paced e })
 
-      pub begins-own : Begins n t i → Begins n t' i
+      begins-own : Begins n t i → Begins n t' i
       begins-own b =
           by_bool (makes_test Cube n t i)
           (λ e. let m = made e in record { first = λ f z. absurd (omega (arith, m.0)); some = λ f. absurd (omega (arith, m.1)) })

@@ -120,12 +120,6 @@ module _ (n d : ℕ) (c : Cubic n d) (three : 3 ≤ d) (eight : 8 ≤ n) where
         let w = goes_on Cube n L crew 5 p o.running on in
         record { running = w.running; pace = rw w.table pace'; near = rw w.table near'; lag = rw w.table lag' }
 
-    -- board 4 does not suspect board 1
-    unaware-four : suspects n t 4 1 ≡ 0
-    unaware-four =
-        let not_one : suspects n t 4 1 ≢ 1 = λ one. let far = (o.near.aware 4 (omega arith) (λ q. omega arith) one).0 in omega (arith, far) in
-        omega (arith, not_one, (o.running.plain.lines.1 4 (omega arith)).range 1 (omega arith))
-
     module _ (over : round_over n t' ≡ true) where
       ended : (i : ℕ) → i < n → i ≢ 1 → finished n t' i ≡ 1
       ended i h q = all-finished Cube n L t' (kept Cube n L crew 5 p o.running).plain over i h (others i h q)
@@ -137,8 +131,8 @@ module _ (n d : ℕ) (c : Cubic n d) (three : 3 ≤ d) (eight : 8 ≤ n) where
           (λ e.
           let same = (heads Cube n L crew 5 p o.running).others 4 finished_column (λ q. e (sym q)) (omega arith) in
           let last = ended 4 (omega arith) (λ q. omega arith) in
-          let all =
-          turns-ended n d 1 L c others (omega arith) p o.running o.pace 4 (omega arith) (λ q. omega arith) (λ z. omega (arith, z, same, last)) in
+          let going_not : finished n t 4 ≢ 0 = λ z. omega (arith, z, same, last) in
+          let all = turns-ended n d 1 L c others (omega arith) p o.running o.pace 4 (omega arith) (λ q. omega arith) going_not in
           absurd (omega (arith, all, o.lag g below apart, granted-most)))
 
       row-same : (x : ℕ) → suspects n p'.state.table x 1 ≡ suspects n t' x 1
@@ -149,7 +143,7 @@ module _ (n d : ℕ) (c : Cubic n d) (three : 3 ≤ d) (eight : 8 ≤ n) where
       unaware' : (x : ℕ) → x < n → x ≢ 1 → suspects n p'.state.table x 1 ≡ 1 → distance x 1 % 2 ^ 3 ≡ 0
       unaware' x hx q one = (near'.aware x hx q (sym (row-same x) ∙ one)).0
 
-      pub rest-over : Late n d p'
+      rest-over : Late n d p'
       rest-over =
           let w = closes Cube n L crew 5 p o.running over in
           let run : Running Cube n L (following 4) p' = subst (λ (x : ℕ). Running Cube n L (following x) p') closer w.running in
@@ -167,7 +161,7 @@ module _ (n d : ℕ) (c : Cubic n d) (three : 3 ≤ d) (eight : 8 ≤ n) where
             unaware = λ l. omega (arith, not_one, (w.running.plain.lines.1 4 (omega arith)).range 1 (omega arith));
           }
 
-      pub rest-left : left_of_three n p'.state.table ≡ left_with n d 1 3 t'
+      rest-left : left_of_three n p'.state.table ≡ left_with n d 1 3 t'
       unfolding turns_left
       rest-left =
           let w = closes Cube n L crew 5 p o.running over in
@@ -315,7 +309,7 @@ module _ (n d : ℕ) (c : Cubic n d) (three : 3 ≤ d) (eight : 8 ≤ n) (q : St
         rw more at (mul-suc n (suc d)),
       )
 
-  pub slow-crash : Slow n d q.state.rounds (enough n d) q'
+  slow-crash : Slow n d q.state.rounds (enough n d) q'
   slow-crash =
       let w = crash-goes_on Cube n 1 5 q team (omega arith) o.running crash-on in
       resting crash-rest w.rounds crash-left

@@ -70,11 +70,11 @@ but-dead b = rw (eq-eqb b b refl) refl
 pub but-apart : (b x : ℕ) → all_but b x ≡ true → x ≢ b
 but-apart b x l e = true≢false (sym l ∙ rw e (but-dead b))
 
-pub but-is : (b x : ℕ) → all_but b x ≡ false → x ≡ b
+but-is : (b x : ℕ) → all_but b x ≡ false → x ≡ b
 but-is b x e = eqb-true x b (not-false _ e)
 
 -- where each other board suspects b
-pub exact-of : (n b : ℕ) (t : List ℕ) → ((x : ℕ) → x < n → x ≢ b → suspects n t x b ≡ 1) → Exact n (all_but b) t
+exact-of : (n b : ℕ) (t : List ℕ) → ((x : ℕ) → x < n → x ≢ b → suspects n t x b ≡ 1) → Exact n (all_but b) t
 exact-of n b t all i j h g l f = rw (but-is b j f) (all i h (but-apart b i l))
 
 -- in the round of the crash: who is at a multiple of 2^s learns, each by the test at the level of its distance
@@ -125,14 +125,21 @@ module _ (n d b : ℕ) (c : Cubic n d) (hb : b < n) (s : ℕ) (le : s ≤ d) (p 
     spread-paced : (i : ℕ) → i < n → i ≢ b → Paced n d b t i
     spread-paced i h q = pace-paced n d b c t i (r.pace i h q)
 
+    level-one : 1 ≤ d
+    level-one = omega (arith, c.levels)
+
     spread-pace' : (i : ℕ) → i < n → i ≢ b → OnPace n d t' i
-    spread-pace' = near-pace n d b (all_but b) c others (but-dead b) hb r.begins p r.running r.pace 1 (omega arith) (omega (arith, c.levels)) r.near
+    spread-pace' = near-pace n d b (all_but b) c others (but-dead b) hb r.begins p r.running r.pace 1 (omega arith) level-one r.near
+
+    spread-near' : NearUnaware n b 1 t'
+    spread-near' = near-turn n d b (all_but b) c others (but-dead b) hb r.begins p r.running r.pace 1 (omega arith) level-one r.near
 
     spread-learned' : Learned n b (Multiple b s) (by_distance b) t'
     spread-learned' =
         let below = (chosen Cube n (all_but b) crew r.begins p r.running).0 in
-        learned-next n d b (all_but b) c others hb (Multiple b s) (by_distance b) (way-distance n d b c hb s) t spread-paced r.learned r.running.plain
-        (but-dead b) g below (granted-other n d b (all_but b) c others r.begins p r.running (but-dead b)) t' _
+        let way = way-distance n d b c hb s in
+        learned-next n d b (all_but b) c others hb (Multiple b s) (by_distance b) way t spread-paced r.learned r.running.plain (but-dead b) g
+        below (granted-other n d b (all_but b) c others r.begins p r.running (but-dead b)) t' _
         (heads Cube n (all_but b) crew r.begins p r.running) (kept Cube n (all_but b) crew r.begins p r.running)
         (going Cube n (all_but b) crew r.begins p r.running) (fewest n d b (all_but b) c others r.begins p r.running)
 
@@ -153,9 +160,7 @@ module _ (n d b : ℕ) (c : Cubic n d) (hb : b < n) (s : ℕ) (le : s ≤ d) (p 
           begins = _;
           running = w.running;
           pace = rw w.table spread-pace';
-          near =
-              rw w.table (near-turn n d b (all_but b) c others (but-dead b) hb r.begins p r.running r.pace 1 (omega arith)
-              (omega (arith, c.levels)) r.near);
+          near = rw w.table spread-near';
           learned = rw w.table spread-learned';
         }
 
@@ -216,7 +221,7 @@ module _ (n d b : ℕ) (c : Cubic n d) (hb : b < n) (s : ℕ) (le : s ≤ d) (p 
         learned-ended n d b (all_but b) c others hb (λ x. Unit {0}) (by_digits b s) (way-digits n d b c hb s le) u paced learned x h q tt f
 
     -- where the granted board has made s turns all know
-    pub gathered : s ≤ turns_made n t g → Exact n (all_but b) t
+    gathered : s ≤ turns_made n t g → Exact n (all_but b) t
     gathered far = exact-of n b t all
       where
         all : (x : ℕ) → x < n → x ≢ b → suspects n t x b ≡ 1
