@@ -63,7 +63,7 @@ static void worked_run(void)
     expect(memory[sizeof memory - 1] == 77, "the byte behind the table stays");
 }
 
-/* RULES: Assignment entries, Bounds of the wait, One dead board, and two stations under The bus master; the header's comment on slots. */
+/* RULES: Assignment entries, Bounds of the wait, Bounds of one dead board, and two stations under The bus master; the header's comment on slots. */
 static void other_examples(void)
 {
     static const uint8_t entries[] = {1, 255, 2, 255, 3, 4, 4, 255, 5, 4, 6, 7, 7, 6};

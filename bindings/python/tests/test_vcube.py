@@ -114,7 +114,8 @@ class PlantTest(unittest.TestCase):
         self.assertEqual(plant.slot(2), (3, 5))  # include/vcube.h
         plant = Plant(8)
         self.assertEqual(plant.wait()[0], 3)  # RULES, Worst case
-        self.assertEqual([vcube.one_dead(size) for size in (2, 4, 6, 8, 63, 64)], [None, (2, 11), None, (2, 34), None, (2, 503)])  # by hand
+        # RULES, Bounds of one dead board, by hand
+        self.assertEqual([vcube.one_dead(size) for size in (2, 4, 6, 8, 63, 64)], [None, (2, 11), None, (2, 34), None, (2, 503)])
         self.assertEqual([vcube.one_dead(size, Wiring.RING) for size in (3, 4, 6, 64)], [None, (3, 12), (3, 22), (3, 312)])
         self.assertEqual([plant.one_dead(), Plant(8, Wiring.RING).one_dead(), Plant(6).one_dead()], [(2, 34), (3, 32), None])
         self.assertEqual([tuple(it) for it in plant.assignment(5)],  # RULES, "Cube: who tests whom"

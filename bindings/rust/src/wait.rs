@@ -73,7 +73,8 @@ pub struct OneDead {
 /// each with a turn whose reply comes in time, if nobody was dead or suspected at the start
 /// of a round, and one station crashes then or later: whichever it is, whenever it does, and
 /// whatever the last granted number. None where nothing is proved: for 2 or 3 stations, and
-/// on the cube if n is not a power of two. The rule is One dead board.
+/// on the cube if n is not a power of two. The rules are Bounds of one dead board, Sound plant
+/// and One dead board.
 ///
 /// # Errors
 ///
