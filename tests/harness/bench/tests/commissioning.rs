@@ -1,6 +1,8 @@
-//! The table under "Cube or ring" of docs/COMMISSIONING.md, and what the page says of it.
+//! The tables under "Cube or ring" and "Under a bus master, one board at a time" of
+//! docs/COMMISSIONING.md, and what the page says of the first.
 
 use bench::detection::worst_case;
+use bench::grants::bound_of_first_crash;
 use shared::groups::SIZES;
 use std::cmp::Ordering;
 use vcube::{Plant, Tally, Wiring};
@@ -8,15 +10,21 @@ use vcube::{Plant, Tally, Wiring};
 const PAGE: &str = include_str!("../../../../docs/COMMISSIONING.md");
 const WIRINGS: [(Wiring, &str); 2] = [(Wiring::Cube, "cube"), (Wiring::Ring, "ring")];
 
-/// The numbers of a row, by the words at its front.
-fn row(words: &str) -> Vec<u32> {
-    let mut sections = PAGE.split("\n## ");
-    let section = sections.find(|text| text.starts_with("Cube or ring"));
-    let mut lines = section.expect("the section").lines();
+/// The cells of a row, by the section and the words at its front.
+fn cells(section: &str, words: &str) -> Vec<&'static str> {
+    let mut lines = PAGE.lines().skip_while(|line| line.trim_start_matches('#') != format!(" {section}"));
     let row = lines.find_map(|line| line.strip_prefix(&format!("| {words} |")));
     let cells = row.expect("the row").trim_end_matches('|').split('|');
-    let number = |cell: &str| cell.trim().replace(',', "").parse();
-    cells.map(|cell| number(cell).expect("a number")).collect()
+    cells.map(str::trim).collect()
+}
+
+fn number(cell: &str) -> u32 {
+    cell.replace(',', "").parse().expect("a number")
+}
+
+/// The numbers of a row under "Cube or ring".
+fn row(words: &str) -> Vec<u32> {
+    cells("Cube or ring", words).into_iter().map(number).collect()
 }
 
 /// The tests of a round in which nobody is dead, by a drive.
@@ -45,9 +53,6 @@ fn tests_and_waits_of_both_wirings() {
         assert_eq!(numbers(tests), row(&format!("tests a round, {name}")));
         assert_eq!(numbers(worst_case), row(&format!("wait, {name}")));
     }
-    // What the page says of them in words.
-    let of_rounds = |n| WIRINGS.map(|(wiring, _)| wait(wiring, n).1);
-    assert_eq!([of_rounds(8), of_rounds(64)], [[96, 40], [3456, 2112]]);
 }
 
 /// From 3 boards on the ring has fewer tests a round, and in L + 1 rounds. Its wait is
