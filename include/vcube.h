@@ -174,7 +174,7 @@ uint8_t vcube_grant(size_t wiring, size_t n, const uint8_t *table, size_t table_
  * number, all handed in and given back; *grants is how many grants were made. */
 uint8_t vcube_drive(size_t wiring, size_t n, uint8_t *table, size_t table_length, uint32_t *rounds, uint32_t *tests, size_t *last, size_t *grants);
 
-/* ---- Doubt lamp and wait: vcube_wait(3) ---- */
+/* ---- Doubt lamp, wait and one dead: vcube_wait(3) ---- */
 /* Doubt lamp: the first live station, by number, that suspects a live one, into *by, and the first that it suspects into *of; both are
  * VCUBE_NO_STATION where there is none. */
 uint8_t vcube_doubt_lamp(size_t wiring, size_t n, const uint8_t *table, size_t table_length, size_t *by, size_t *of);
@@ -182,6 +182,11 @@ uint8_t vcube_doubt_lamp(size_t wiring, size_t n, const uint8_t *table, size_t t
 /* Wait: after how many rounds and turns at most all live stations know all dead ones. When these hold is in vcube_wait(3). */
 uint8_t vcube_wait(size_t wiring, size_t n, const uint8_t *table, size_t table_length, size_t *rounds, size_t *turns_per_round,
                    size_t *turns_until_known, size_t *turns_from_crash);
+
+/* One dead: a bus master grants turns, nobody is dead or suspected, and one station dies. Every live station then suspects it and nobody else, at
+ * the latest after *rounds closed rounds, that of the crash among them, and at the latest after *grants grants behind the crash. Both are 0 where
+ * nothing is proved: for 2 or 3 stations, and on the cube if n is not a power of two. When these hold is in vcube_wait(3). */
+uint8_t vcube_one_dead(size_t wiring, size_t n, size_t *rounds, size_t *grants);
 
 /* ---- Who tests whom, on the cube: vcube_assignment(3) ---- */
 /* Group list: the station's group at that level, into a list of vcube_group_length bytes. */

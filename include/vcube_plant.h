@@ -204,7 +204,7 @@ static inline enum vcube_refusal vcube_plant_drive(struct vcube_plant *plant, si
                                            &plant->last, grants);
 }
 
-/* ---- Doubt lamp and wait ---- */
+/* ---- Doubt lamp, wait and one dead ---- */
 
 static inline enum vcube_refusal vcube_plant_doubt_lamp(const struct vcube_plant *plant, size_t *by, size_t *of)
 {
@@ -216,6 +216,11 @@ static inline enum vcube_refusal vcube_plant_wait(const struct vcube_plant *plan
 {
     return (enum vcube_refusal)vcube_wait(plant->wiring, plant->n, plant->table, plant->table_length, rounds, turns_per_round, turns_until_known,
                                           turns_from_crash);
+}
+
+static inline enum vcube_refusal vcube_plant_one_dead(const struct vcube_plant *plant, size_t *rounds, size_t *grants)
+{
+    return (enum vcube_refusal)vcube_one_dead(plant->wiring, plant->n, rounds, grants);
 }
 
 /* ---- The table ---- */

@@ -499,6 +499,8 @@ static void wide_numbers(void)
     for (size_t k = 0; k < sizeof wide / sizeof wide[0]; k++) {
         expect(vcube_fresh_table(wide[k], N, table, TABLE) == VCUBE_REFUSED_NO_SUCH_WIRING, "wide: a wiring");
         expect(vcube_fresh_table(CUBE, wide[k] + 3, table, TABLE) == VCUBE_REFUSED_SIZE_OUT_OF_RANGE, "wide: a size");
+        expect(vcube_one_dead(wide[k], N, &a, &b) == VCUBE_REFUSED_NO_SUCH_WIRING && a == 0 && b == 0, "wide: the wiring of one dead");
+        expect(vcube_one_dead(CUBE, wide[k] + 3, &a, &b) == VCUBE_REFUSED_SIZE_OUT_OF_RANGE && a == 0 && b == 0, "wide: the size of one dead");
         expect(vcube_row(CUBE, N, table, TABLE, wide[k], &a, &b) == VCUBE_REFUSED_NO_SUCH_STATION && a == 0 && b == 0, "wide: a station");
         expect(vcube_group_list(N, 1, wide[k], list, 1) == VCUBE_REFUSED_NO_SUCH_LEVEL, "wide: a level");
         expect(vcube_grant(CUBE, N, table, TABLE, wide[k], &a) == VCUBE_REFUSED_LAST_GRANTED && a == 0, "wide: a last granted number");

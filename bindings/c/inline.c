@@ -63,7 +63,7 @@ static void worked_run(void)
     expect(memory[sizeof memory - 1] == 77, "the byte behind the table stays");
 }
 
-/* RULES: Assignment entries, Bounds of the wait, and two stations under The bus master; the header's comment on slots. */
+/* RULES: Assignment entries, Bounds of the wait, One dead board, and two stations under The bus master; the header's comment on slots. */
 static void other_examples(void)
 {
     static const uint8_t entries[] = {1, 255, 2, 255, 3, 4, 4, 255, 5, 4, 6, 7, 7, 6};
@@ -76,7 +76,9 @@ static void other_examples(void)
            "assignment");
     expect(vcube_plant_enter(&plant, VCUBE_KIND_CRASH, 4, NULL) == VCUBE_ACCEPTED, "a crash");
     expect(vcube_plant_wait(&plant, &a, &b, &c, &d) == VCUBE_ACCEPTED && a == 3 && b == 30 && c == 90 && d == 120, "wait, on the cube");
+    expect(vcube_plant_one_dead(&plant, &a, &b) == VCUBE_ACCEPTED && a == 2 && b == 34, "one dead, on the cube");
     plant.wiring = RING;
+    expect(vcube_plant_one_dead(&plant, &a, &b) == VCUBE_ACCEPTED && a == 3 && b == 32, "one dead, on the ring");
     expect(vcube_plant_wait(&plant, &a, &b, &c, &d) == VCUBE_ACCEPTED && a == 4 && b == 15 && c == 60 && d == 75, "wait, on the ring");
     expect(vcube_plant_fresh(&plant, CUBE, 8, memory, sizeof memory) == VCUBE_ACCEPTED && vcube_plant_enter(&plant, 3, 0, NULL) == 0 &&
                vcube_plant_enter(&plant, 3, 1, NULL) == 0 && vcube_plant_slot(&plant, 2, &a, &b) == VCUBE_ACCEPTED && a == 3 && b == 5,
@@ -117,6 +119,7 @@ static void beside(size_t wiring, size_t n)
     expect(vcube_plant_wait(&plant, a, a + 1, a + 2, a + 3) == vcube_wait(wiring, n, table, length, b, b + 1, b + 2, b + 3) &&
                memcmp(a, b, sizeof a) == 0,
            "beside: wait");
+    expect(vcube_plant_one_dead(&plant, a, a + 1) == vcube_one_dead(wiring, n, b, b + 1) && a[0] == b[0] && a[1] == b[1], "beside: one dead");
     for (k = 0; k <= n; k++) {
         expect(vcube_plant_row(&plant, k, a, a + 1) == vcube_row(wiring, n, table, length, k, b, b + 1) && a[0] == b[0], "beside: row");
         expect(vcube_plant_slot(&plant, k, a, a + 1) == vcube_slot(n, table, length, k, b, b + 1) && a[0] == b[0] && a[1] == b[1], "beside: slot");

@@ -254,6 +254,20 @@ uint8_t vcube_wait(size_t wiring, size_t n, const uint8_t *table, size_t table_l
     return number;
 }
 
+uint8_t vcube_one_dead(size_t wiring, size_t n, size_t *rounds, size_t *grants)
+{
+    uint32_t rounds_at, grants_at;
+    uint8_t number;
+
+    begin_call();
+    rounds_at = room_for_number();
+    grants_at = room_for_number();
+    number = CALL(vcube_one_dead, wiring, size_in(n), rounds_at, grants_at);
+    *rounds = get_size(rounds_at);
+    *grants = get_size(grants_at);
+    return number;
+}
+
 /* Of a report longer than any plant needs, only the front is handed over; the rest is cleared here. */
 uint8_t vcube_mend(size_t wiring, size_t n, uint8_t *table, size_t table_length, uint8_t *report, size_t report_length, size_t *changes)
 {

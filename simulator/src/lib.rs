@@ -5,7 +5,7 @@
 //! - the owner's documents and the papers that they name (docs/SOURCES.md): all but what follows;
 //! - include/vcube.h: totals, and the arguments and answers of each call;
 //! - docs/RULES.md and include/vcube.h: words, the reading of an input, slot, wait, and boards on the cable;
-//! - what the library's authors said of the sheet program: arguments, messages and both layouts.
+//! - what the library's authors said of the sheet program (arguments, messages and both layouts) and of one dead board.
 //!
 //! Where the documents can be read in two ways, its authors were given the reading that docs/DECISIONS.md has (the
 //! assignment, bytes 4 and 5, the order in which a file's faults are judged, the ring): there agreement shows nothing.
@@ -26,6 +26,7 @@ mod lamp;
 mod line;
 mod mender;
 mod numbers;
+mod one_dead;
 mod outcome;
 mod plant;
 pub mod program;
@@ -56,6 +57,7 @@ pub use input::{read_input, InputRead, MOST_ENTRIES, SCHEDULE_LENGTH};
 pub use lamp::doubt_lamp;
 pub use line::HEAD;
 pub use mender::mend;
+pub use one_dead::{one_dead, OneDead};
 pub use questions::{assignment, check_table, fresh_table, group_list, row, row_refusal};
 pub use run::{run, Answer};
 pub use saved::{load, save, saved_size, Loaded};

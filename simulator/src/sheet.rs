@@ -3,6 +3,7 @@
 use crate::groups::{answers_from, DueOrAhead};
 use crate::line::Row;
 use crate::numbers::{Distance, Size, Station};
+use crate::one_dead::{self, OneDead};
 use crate::reading::{read_size, read_station};
 use crate::wait::worst_case;
 use crate::wiring::Wiring;
@@ -14,6 +15,9 @@ const SIZES: &[u8] = b"--sizes";
 const TESTED: &str = "whom it tests, in order";
 const FIGURES: &str = "tests a round  most with one more dead";
 const NOT_TESTED: &str = "whom it does not test (who stands ahead)";
+
+/// The heads of the columns over all sizes.
+const HEADS: &str = "| boards | nobody dead | one dead | rounds | grants | bus master ";
 
 /// What the program prints.
 pub struct Response {
@@ -171,7 +175,18 @@ fn join_or(words: impl Iterator<Item = String>, separator: &str, other: &str) ->
     }
 }
 
-/// The first line, the lines on who is tested and those on who is not.
+/// The line on the bus master, where nobody is dead and something is proved.
+fn print_bus_master(plant: &Plant) -> String {
+    let proved = one_dead::proved(Wiring::Cube, plant.size);
+    match proved.filter(|_| plant.dead == Row::EMPTY) {
+        None => String::new(),
+        Some(OneDead { rounds, grants, .. }) => {
+            format!("Under a bus master, one board at a time: after at most {rounds} rounds, {grants} grants\n")
+        }
+    }
+}
+
+/// The first lines, those on who is tested and those on who is not.
 fn print_sheet(plant: &Plant) -> String {
     let entries: Vec<Entry> = plant.live().map(|board| plant.entry(board)).collect();
     let lengths = entries.iter().map(|entry| entry.tested.len());
@@ -186,7 +201,8 @@ fn print_sheet(plant: &Plant) -> String {
         rounds_until_known(plant.size),
         most_grants(plant.size, plant.dead)
     );
-    let mut text = first + &known + &format!("\nboard  {TESTED:width$}  {FIGURES}\n");
+    let bus_master = print_bus_master(plant);
+    let mut text = first + &known + &bus_master + &format!("\nboard  {TESTED:width$}  {FIGURES}\n");
     for (board, entry) in plant.live().map(print_board).zip(&entries) {
         let (tested, tests, most) = (&entry.tested, entry.tests, entry.most);
         text += &format!("{board:>5}  {tested:width$}  {tests:13}  {most:23}\n");
@@ -200,8 +216,8 @@ fn print_sheet(plant: &Plant) -> String {
 
 /// The table over all sizes: 21 rows of three sizes each.
 fn print_sizes() -> String {
-    let mut text = "| boards | nobody dead | one dead | rounds | grants ".repeat(3) + "|\n";
-    text.push_str(&("|--:|--:|--:|--:|--:".repeat(3) + "|\n"));
+    let mut text = HEADS.repeat(3) + "|\n";
+    text.push_str(&("|--:|--:|--:|--:|--:|--:".repeat(3) + "|\n"));
     for n in 2..23 {
         let sizes = [n, n + 21, n + 42].map(print_size);
         text.push_str(&(sizes.concat() + "|\n"));
@@ -210,8 +226,8 @@ fn print_sizes() -> String {
 }
 
 /// The columns of one size: the greatest numbers of tests of any board with
-/// nobody dead and with one dead, and the rounds and grants until that one is
-/// known everywhere.
+/// nobody dead and with one dead, the rounds and grants until that one is known
+/// everywhere, and the grants under a bus master.
 fn print_size(n: usize) -> String {
     let size = Size::new(n).expect("the table has the sizes 2 to 64");
     let tests = |board| tested(size, board, Row::EMPTY).count();
@@ -220,7 +236,9 @@ fn print_size(n: usize) -> String {
     let one_dead = greatest(size.stations().map(most));
     let rounds = rounds_until_known(size);
     let grants = most_grants(size, Row::EMPTY);
-    format!("| {n} | {nobody_dead} | {one_dead} | {rounds} | {grants} ")
+    let bus_master = one_dead::proved(Wiring::Cube, size);
+    let bus_master = join_or(bus_master.iter().map(|one| one.grants.to_string()), "", "-");
+    format!("| {n} | {nobody_dead} | {one_dead} | {rounds} | {grants} | {bus_master} ")
 }
 
 /// The greatest of the numbers, of which there is at least one.

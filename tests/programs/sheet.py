@@ -22,6 +22,8 @@ TWO = (  # by hand: each tests the other, also where that is dead; two rounds, e
     '    0  1                                    1                        1\n'
     '    1  0                                    1                        1\n\n'
     'board  whom it does not test (who stands ahead)\n    0  -\n    1  -\n')
+UNDER_A_BUS_MASTER = {  # by hand: with 2^d boards, 4 at least, (n - 1)(d + 2) - 1 grants
+    4: '2 rounds, 11 grants', 8: '2 rounds, 34 grants', 16: '2 rounds, 89 grants', 32: '2 rounds, 216 grants', 64: '2 rounds, 503 grants'}
 BOARDS = ' '.join(str(board) for board in range(64))  # all of 64
 
 # The line on standard error, and arguments that get it, with a space between
@@ -127,6 +129,13 @@ UNUSUAL = [
 ]
 
 
+def front(n, *dead):
+    """The lines before the empty one: with nobody dead, at some sizes, there is one on the bus master, else none."""
+    bus_master = '' if dead or n not in UNDER_A_BUS_MASTER else f'Under a bus master, one board at a time: after at most {UNDER_A_BUS_MASTER[n]}\n'
+    return re.compile(f'{n} boards, dead: {dead[0] if dead else "none"}\nOne more dead board is known everywhere after at most .* grants\n'
+                      f'{bus_master}\n(?s:.*)'.encode())
+
+
 def listed():
     """Each size with nobody dead, and with each single board dead."""
     for n in range(2, 65):
@@ -149,7 +158,7 @@ def cases():
     for words, start in RIGHT:
         yield Case('arguments', 'sheet', tuple(words.split(' ')), out=begins(start), simulated=True)
     for numbers in listed():
-        yield Case('one or nobody dead', 'sheet', tuple(str(number) for number in numbers), out=begins(f'{numbers[0]} boards, '), simulated=True)
+        yield Case('one or nobody dead', 'sheet', tuple(str(number) for number in numbers), out=front(*numbers), simulated=True)
     for words, status, out, err in CALLS:
         yield Case('call', 'sheet', tuple(words), out=out, err=err, status=status)
     for how, words, status, out, err in UNUSUAL:

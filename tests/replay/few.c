@@ -45,6 +45,8 @@ int main(void)
         size_t table_length = VCUBE_TABLE_LENGTH(size);
         expect(vcube_fresh_table(VCUBE_WIRING_CUBE, size, table, table_length) == (is_taken ? VCUBE_ACCEPTED : 1), "fresh table: 1");
         expect(vcube_fresh_table(3, size, table, table_length) == VCUBE_REFUSED_NO_SUCH_WIRING, "fresh table: 24 before 1");
+        expect(vcube_one_dead(VCUBE_WIRING_RING, size, &n, &length) == (is_taken ? VCUBE_ACCEPTED : 1), "one dead: 1");
+        expect(vcube_one_dead(3, size, &n, &length) == VCUBE_REFUSED_NO_SUCH_WIRING && n == 0 && length == 0, "one dead: 24 before 1");
         length = save_fresh(size, saved);
         expect(length == VCUBE_SAVED_LENGTH(size), "the length of a saved plant");
         n = 5;

@@ -412,6 +412,7 @@ static size_t items(size_t k)
     MAKE(drive, N(0), N(1), B(2), I(3), I(4), S(5), S(6)) \
     MAKE(doubt_lamp, N(0), N(1), CONST_B(2), S(3), S(4)) \
     MAKE(wait, N(0), N(1), CONST_B(2), S(3), S(4), S(5), S(6)) \
+    MAKE(one_dead, N(0), N(1), S(2), S(3)) \
     MAKE(mend, N(0), N(1), B(2), B(3), S(4)) \
     MAKE(save, N(0), CONST_B(1), W(2), W(3), B(4)) \
     MAKE(load, CONST_B(0), B(1), S(2), I(3), I(4)) \

@@ -83,7 +83,8 @@ class PlantTest(unittest.TestCase):
                              (lambda: vcube.Board(8, 0, 3), 24), (lambda: vcube.Board(2 ** 70, 0), 1), (lambda: vcube.Board(8, -1), 9),
                              (lambda: plant.slot(8), 9), (lambda: plant.slot(-1), 9), (lambda: plant.slot(2 ** 64), 9),
                              (lambda: plant.suspects(0, 8), 9), (lambda: plant.suspects(8, 0), 9), (lambda: vcube.group_list(8, 5, 4), 12),
-                             (lambda: vcube.group_list(8, 8, 1), 9), (lambda: vcube.Board(8, 8), 9), (lambda: vcube.figures([]), 14),
+                             (lambda: vcube.group_list(8, 8, 1), 9), (lambda: vcube.one_dead(65, 3), 24), (lambda: vcube.one_dead(2 ** 64 + 8), 1),
+                             (lambda: vcube.Board(8, 8), 9), (lambda: vcube.figures([]), 14),
                              (lambda: vcube.figures([1] * 4097), 15), (lambda: Plant.load(b''), 21), (lambda: Plant.load(b'\4'), 18)):
             with self.assertRaises(Refused) as caught:
                 make()
@@ -113,6 +114,9 @@ class PlantTest(unittest.TestCase):
         self.assertEqual(plant.slot(2), (3, 5))  # include/vcube.h
         plant = Plant(8)
         self.assertEqual(plant.wait()[0], 3)  # RULES, Worst case
+        self.assertEqual([vcube.one_dead(size) for size in (2, 4, 6, 8, 63, 64)], [None, (2, 11), None, (2, 34), None, (2, 503)])  # by hand
+        self.assertEqual([vcube.one_dead(size, Wiring.RING) for size in (3, 4, 6, 64)], [None, (3, 12), (3, 22), (3, 312)])
+        self.assertEqual([plant.one_dead(), Plant(8, Wiring.RING).one_dead(), Plant(6).one_dead()], [(2, 34), (3, 32), None])
         self.assertEqual([tuple(it) for it in plant.assignment(5)],  # RULES, "Cube: who tests whom"
                          [(1, True, None), (2, True, None), (3, False, 4), (4, True, None), (5, False, 4), (6, False, 7), (7, False, 6)])
         self.assertEqual([vcube.group_list(8, 5, level) for level in (1, 2, 3)], [[4], [7, 6], [1, 0, 3, 2]])

@@ -9,13 +9,13 @@ The library is loaded from the file that the variable VCUBE_LIBRARY names, else 
 from . import _library
 from .board import Board
 from .codes import TOLD_NOT_RECORDED, Kind, Outcome, Refusal, Refused, Status, Wiring
-from .plant import Assigned, Change, Doubt, Driven, Entry, Plant, Slot, Step, Wait, convert, group_list, saved_size
+from .plant import Assigned, Change, Doubt, Driven, Entry, OneDead, Plant, Slot, Step, Wait, convert, group_list, one_dead, saved_size
 from .results import Figures, Input, Totals, Unread, figures, read_input
 
 __all__ = [
-    'Assigned', 'Board', 'Change', 'Doubt', 'Driven', 'Entry', 'Figures', 'Input', 'Kind', 'Outcome', 'Plant', 'Refusal', 'Refused', 'Slot',
-    'Status', 'Step', 'TOLD_NOT_RECORDED', 'Totals', 'Unread', 'Wait', 'Wiring', 'convert', 'figures', 'group_list', 'read_input', 'saved_size',
-    'version',
+    'Assigned', 'Board', 'Change', 'Doubt', 'Driven', 'Entry', 'Figures', 'Input', 'Kind', 'OneDead', 'Outcome', 'Plant', 'Refusal', 'Refused',
+    'Slot', 'Status', 'Step', 'TOLD_NOT_RECORDED', 'Totals', 'Unread', 'Wait', 'Wiring', 'convert', 'figures', 'group_list', 'one_dead',
+    'read_input', 'saved_size', 'version',
 ]
 
 

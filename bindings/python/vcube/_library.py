@@ -57,6 +57,7 @@ CALLS = {
     'vcube_drive': (*TABLE, *TALLY, NUMBER, NUMBER),
     'vcube_doubt_lamp': (*TABLE, NUMBER, NUMBER),
     'vcube_wait': (*TABLE, NUMBER, NUMBER, NUMBER, NUMBER),
+    'vcube_one_dead': (Size, Size, NUMBER, NUMBER),
     'vcube_mend': (*TABLE, *BYTES, NUMBER),
     'vcube_save': (*CUBE_TABLE, c_uint32, c_uint32, *BYTES),
     'vcube_load': (*BYTES, *BYTES, NUMBER, *TALLY),

@@ -60,6 +60,13 @@ class Wait(NamedTuple):
     turns_from_crash: int
 
 
+class OneDead(NamedTuple):
+    """After how many closed rounds, that of the crash among them, and after how many grants behind the crash at most one dead board is known."""
+
+    rounds: int
+    grants: int
+
+
 class Slot(NamedTuple):
     """How many tests a board makes in a round by its own row, and the most with any one more board suspected."""
 
@@ -277,6 +284,10 @@ class Plant:
         checked(library.vcube_wait(*self._arguments(), *map(byref, numbers)))
         return Wait(*(number.value for number in numbers))
 
+    def one_dead(self) -> Optional[OneDead]:
+        """What `one_dead` gives for this wiring and size."""
+        return one_dead(self._size, self._wiring)
+
     def slot(self, station: int) -> Slot:
         """How many tests a live board makes in a round, on the cube. Until the dead are known, time slots by the commissioning sheet."""
         self._want_cube('slot')
@@ -386,3 +397,18 @@ def group_list(size: int, station: int, level: int) -> List[int]:
     members = _library.buffer(max(0, min(half, size - first)))
     checked(library.vcube_group_list(size, station, level, members, len(members)))
     return list(members)
+
+
+def one_dead(size: int, wiring: int = Wiring.CUBE) -> Optional[OneDead]:
+    """After how many rounds and grants of a bus master at most every live board suspects the one that died, and nobody else.
+
+    When that holds: RULES, One dead board. None where nothing is proved: for 2 or 3 boards, and on the cube if `size` is not a power of two.
+
+    >>> one_dead(8), one_dead(9)
+    (OneDead(rounds=2, grants=34), None)
+    >>> one_dead(9, Wiring.RING)
+    OneDead(rounds=3, grants=37)
+    """
+    rounds, grants = c_size_t(), c_size_t()
+    checked(library.vcube_one_dead(wiring, size, byref(rounds), byref(grants)))
+    return OneDead(rounds.value, grants.value) if rounds.value else None

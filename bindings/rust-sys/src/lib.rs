@@ -349,6 +349,8 @@ unsafe extern "C" {
         turns_until_known: *mut usize,
         turns_from_crash: *mut usize,
     ) -> u8;
+    /// One dead: after how many rounds and grants at most one dead station is known.
+    pub fn vcube_one_dead(wiring: usize, n: usize, rounds: *mut usize, grants: *mut usize) -> u8;
     /// Mend: makes a damaged table valid, and lists the bytes that it changed.
     pub fn vcube_mend(
         wiring: usize,

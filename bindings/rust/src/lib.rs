@@ -124,7 +124,7 @@ pub use slot::{Slot, slot};
 #[cfg(feature = "alloc")]
 pub use texts::{Input, Unread, read_input};
 pub use texts::{SCHEDULE_LENGTH, WORDS_LENGTH, Words, outcome_words, refusal_words, status_words};
-pub use wait::{Wait, wait};
+pub use wait::{OneDead, Wait, one_dead, wait};
 
 /// A station number. Any number can stand here; the library refuses n or more.
 #[derive(Clone, Copy, Debug, PartialEq, Eq, Hash, PartialOrd, Ord)]

@@ -4,10 +4,10 @@ use core::fmt;
 
 use crate::{
     Answer, AssignmentEntry, Board, Change, Distance, Doubt, Driven, DueOrAhead, Entry, HEAD,
-    LONGEST_GROUP, Level, Line, Loaded, MOST_STATIONS, Refusal, SheetLine, Slot, Station, Status,
-    Tally, ToldBy, Wait, Wiring, assignment, assignment_length, changes, doubt_lamp, drive,
-    fresh_table, grant, group_length, group_list, line, line_length, lines, load, mend, row, run,
-    save, saved_length, saved_size, slot, table_length, wait,
+    LONGEST_GROUP, Level, Line, Loaded, MOST_STATIONS, OneDead, Refusal, SheetLine, Slot, Station,
+    Status, Tally, ToldBy, Wait, Wiring, assignment, assignment_length, changes, doubt_lamp, drive,
+    fresh_table, grant, group_length, group_list, line, line_length, lines, load, mend, one_dead,
+    row, run, save, saved_length, saved_size, slot, table_length, wait,
 };
 
 /// The length of the longest table.
@@ -367,6 +367,24 @@ impl Plant {
     /// ```
     pub fn wait(&self) -> Result<Wait, Refusal> {
         wait(self.wiring, self.size, self.table())
+    }
+
+    /// One dead: after how many rounds and grants at most one dead station is known under a bus
+    /// master, by wiring and size alone. When this holds, and where there is none, is said at
+    /// [`one_dead`].
+    ///
+    /// # Example
+    ///
+    /// ```
+    /// use vcube::{OneDead, Plant, Wiring};
+    ///
+    /// let plant = Plant::new(Wiring::Ring, 8)?;
+    /// assert_eq!(plant.one_dead(), Some(OneDead { rounds: 3, grants: 32 }));
+    /// # Ok::<(), vcube::Refusal>(())
+    /// ```
+    #[must_use]
+    pub fn one_dead(&self) -> Option<OneDead> {
+        one_dead(self.wiring, self.size).expect("a plant has a size")
     }
 
     /// Slot, on the cube: how many tests a live station makes in a round by its own row, and for

@@ -57,6 +57,7 @@ call!(drive = vcube_drive(wiring: usize, n: usize, table: &mut [u8], rounds: &mu
 call!(doubt_lamp = vcube_doubt_lamp(wiring: usize, n: usize, table: &[u8], by: &mut usize, of: &mut usize) -> u8);
 call!(wait = vcube_wait(wiring: usize, n: usize, table: &[u8], rounds: &mut usize, turns_per_round: &mut usize,
                         turns_until_known: &mut usize, turns_from_crash: &mut usize) -> u8);
+call!(one_dead = vcube_one_dead(wiring: usize, n: usize, rounds: &mut usize, grants: &mut usize) -> u8);
 call!(mend = vcube_mend(wiring: usize, n: usize, table: &mut [u8], report: &mut [u8], changes: &mut usize) -> u8);
 call!(save = vcube_save(n: usize, table: &[u8], rounds: u32, tests: u32, saved: &mut [u8]) -> u8);
 call!(load = vcube_load(saved: &[u8], table: &mut [u8], n: &mut usize, rounds: &mut u32, tests: &mut u32) -> u8);

@@ -56,7 +56,7 @@ const FUNCTIONS: &str = concat!(
 );
 
 /// Functions, and the names that RULES has for their calls.
-const CALLS: [(&str, &str); 23] = [
+const CALLS: [(&str, &str); 24] = [
     ("fresh_table", "Fresh table"),
     ("group_list", "Group list"),
     ("group_stations", "Group list"),
@@ -71,6 +71,7 @@ const CALLS: [(&str, &str); 23] = [
     ("drive", "Drive call"),
     ("doubt_lamp", "Lamp call"),
     ("wait", "Wait call"),
+    ("one_dead", "One dead call"),
     ("mend", "Mend"),
     ("save", "Save"),
     ("load", "Load"),
@@ -136,7 +137,7 @@ fn errors_are_named_as_the_rules_have_them() {
             assert_eq!(of_plant, without(never), "{function} of a plant");
         }
     }
-    assert_eq!(of_plants, 13);
+    assert_eq!(of_plants, 14);
     assert_eq!(named_by(include_str!("plant.rs"), "next"), Some(vec![9, 3, 10, 11]));
     // A board has a size, a number and a valid line: 24, 1, 9, 25 and 3 do not occur.
     for (function, call) in [

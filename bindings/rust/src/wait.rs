@@ -1,4 +1,5 @@
-//! After how many rounds and turns at most the dead are known.
+//! After how many rounds and turns at most the dead are known; and after how many rounds
+//! and grants of a bus master one is, where nobody was dead.
 
 use crate::{Refusal, Wiring, accepted, number_of, raw};
 
@@ -56,4 +57,41 @@ pub fn wait(wiring: Wiring, n: usize, table: &[u8]) -> Result<Wait, Refusal> {
         &mut wait.turns_from_crash,
     );
     accepted(number).map(|()| wait)
+}
+
+/// When one dead station is known under a bus master.
+#[derive(Clone, Copy, Debug, PartialEq, Eq, Hash)]
+pub struct OneDead {
+    /// After so many closed rounds at the latest, that of the crash among them.
+    pub rounds: usize,
+    /// After so many grants behind the crash at the latest.
+    pub grants: usize,
+}
+
+/// One dead: after how many rounds and grants at most every live station suspects the one
+/// that died, and nobody else. This holds if the bus master makes grants and nothing else,
+/// each with a turn whose reply comes in time, if nobody was dead or suspected at the start
+/// of a round, and one station crashes then or later: whichever it is, whenever it does, and
+/// whatever the last granted number. None where nothing is proved: for 2 or 3 stations, and
+/// on the cube if n is not a power of two. The rule is One dead board.
+///
+/// # Errors
+///
+/// [`Refusal::SizeOutOfRange`].
+///
+/// # Example
+///
+/// ```
+/// use vcube::{OneDead, Wiring};
+///
+/// let of_cube = vcube::one_dead(Wiring::Cube, 8)?;
+/// assert_eq!(of_cube, Some(OneDead { rounds: 2, grants: 34 }));
+/// assert_eq!(vcube::one_dead(Wiring::Cube, 9)?, None);
+/// assert_eq!(vcube::one_dead(Wiring::Ring, 9)?, Some(OneDead { rounds: 3, grants: 37 }));
+/// # Ok::<(), vcube::Refusal>(())
+/// ```
+pub fn one_dead(wiring: Wiring, n: usize) -> Result<Option<OneDead>, Refusal> {
+    let (mut rounds, mut grants) = (0, 0);
+    accepted(raw::one_dead(number_of(wiring), n, &mut rounds, &mut grants))?;
+    Ok((rounds > 0).then_some(OneDead { rounds, grants }))
 }

@@ -4,12 +4,11 @@ use lists::bytes;
 use lists::refusal::Refusal;
 use station::outcome::Outcome;
 use table::Station;
-
-const CUBE: usize = 1;
+use table::wiring::Wiring::Cube;
 
 // The number of the board that board i tests next; 255 for nobody, and 99 where the call is refused.
 fn tested(i: u8, line: &[u8]) -> u8 {
-    match calls::next(CUBE, 4, Station(i), line) {
+    match calls::next(Cube, 4, Station(i), line) {
         Ok(Some(j)) => j.0,
         Ok(None) => 255,
         Err(_) => 99,
@@ -18,7 +17,7 @@ fn tested(i: u8, line: &[u8]) -> u8 {
 
 // A turn of board i without a reply: the outcome's number.
 fn unanswered(i: u8, line: &mut [u8]) -> u8 {
-    match calls::not_replied(CUBE, 4, Station(i), line) {
+    match calls::not_replied(Cube, 4, Station(i), line) {
         Ok(outcome) => outcome.outcome_byte(),
         Err(_) => 99,
     }
@@ -34,14 +33,14 @@ fn answered(i: u8, line: &mut [u8], j: u8, other: &mut [u8]) -> u8 {
 
 fn exchange(i: Station, line: &mut [u8], j: Station, other: &mut [u8]) -> Result<Outcome, Refusal> {
     let mut packed = [0u8; 1];
-    calls::row(CUBE, 4, j, other, &mut packed)?;
-    let outcome = calls::replied(CUBE, 4, i, line, &packed)?;
+    calls::row(Cube, 4, j, other, &mut packed)?;
+    let outcome = calls::replied(Cube, 4, i, line, &packed)?;
     match outcome {
         Outcome::Exchanged(_) => {
-            calls::row(CUBE, 4, i, line, &mut packed)?;
-            calls::exchanged(CUBE, 4, j, other, i, &packed)?;
+            calls::row(Cube, 4, i, line, &mut packed)?;
+            calls::exchanged(Cube, 4, j, other, i, &packed)?;
         }
-        Outcome::TestedTold(_) => calls::told(CUBE, 4, j, other, i)?,
+        Outcome::TestedTold(_) => calls::told(Cube, 4, j, other, i)?,
         _ => {}
     }
     Ok(outcome)
@@ -49,7 +48,7 @@ fn exchange(i: Station, line: &mut [u8], j: Station, other: &mut [u8]) -> Result
 
 fn fresh(i: u8) -> [u8; 10] {
     let mut line = [77u8; 10];
-    let _made = calls::fresh(CUBE, 4, Station(i), &mut line);
+    let _made = calls::fresh(Cube, 4, Station(i), &mut line);
     line
 }
 
@@ -83,10 +82,10 @@ fn worked_run(rt: HostRuntime) {
     assert_eq!(rt; unanswered(3, &mut fourth), 3);
     assert_eq!(rt; tested(3, &fourth), 255);
     assert_eq!(rt; unanswered(3, &mut fourth), 0);
-    assert!(rt; calls::round_closed(CUBE, 4, Station(0), &mut first).is_ok());
-    assert!(rt; calls::round_closed(CUBE, 4, Station(1), &mut second).is_ok());
-    assert!(rt; calls::round_closed(CUBE, 4, Station(2), &mut third).is_ok());
-    assert!(rt; calls::round_closed(CUBE, 4, Station(3), &mut fourth).is_ok());
+    assert!(rt; calls::round_closed(Cube, 4, Station(0), &mut first).is_ok());
+    assert!(rt; calls::round_closed(Cube, 4, Station(1), &mut second).is_ok());
+    assert!(rt; calls::round_closed(Cube, 4, Station(2), &mut third).is_ok());
+    assert!(rt; calls::round_closed(Cube, 4, Station(3), &mut fourth).is_ok());
     let live = [0u8, 1, 0, 0, 255, 0, 0, 1, 0, 0];
     let left = [2u8, 1, 0, 0, 0, 1, 0, 0, 0, 0];
     assert!(rt; bytes::same_bytes(&first, &live));

@@ -39,11 +39,11 @@ parts : (a b c d e g h t s u : List ℕ)
 parts a b c d e g h t s u = simp append_assoc
 
 pub sheet_parts : (n : ℕ) (row : List ℕ) (columns : ℕ) → columns ≡ list_width n row
-    → (decimal n ++ (codes " boards, dead:" ++ (dead_text row ++ (codes "\n" ++ (known_text n row ++ codes "\n\n"))))) ++ (tests_head columns
+    → (decimal n ++ (codes " boards, dead:" ++ (dead_text row ++ (codes "\n" ++ (known_text n row ++ codes "\n"))))) ++ (tests_head columns
     ++ (live_lines (tests_line n row columns) row n ++ (codes "\nboard  whom it does not test (who stands ahead)\n"
     ++ live_lines (untested_line n row) row n))) ≡ sheet_text n row
 sheet_parts n row columns e =
     let w = list_width n row in
-    rw e (parts (decimal n) (codes " boards, dead:") (dead_text row) (codes "\n") (known_text n row) (codes "\n\n") (tests_head w)
+    rw e (parts (decimal n) (codes " boards, dead:") (dead_text row) (codes "\n") (known_text n row) (codes "\n") (tests_head w)
     (live_lines (tests_line n row w) row n)
     (codes "\nboard  whom it does not test (who stands ahead)\n") (live_lines (untested_line n row) row n))

@@ -1,6 +1,7 @@
 -- The sheet of one plant, as it is printed.
 -- Assumes nothing.
 use Rattle.std.specs.Prelude.{ℕ, suc, ◌-◌, List, [], ◌++◌, codes, decimal, map, length, max, replicate, if◌then◌else◌}
+use Rattle.std.specs.Prelude.{count_by, ◌==◌, Option, Some, None}
 use Rattle.std.specs.List.{zip}
 use Rattle.table.specs.declared.Station.{Station}
 use Rattle.table.specs.Sizes.{dimension}
@@ -9,6 +10,9 @@ use Rattle.slots.specs.Slots.{tested, untested, ahead, most_tests}
 use Rattle.slots.specs.declared.untested.Untested.{Untested}
 use Rattle.detection.specs.Claim.{worst_latency}
 use Rattle.latency.specs.Figures.{most_until_known}
+use Rattle.table.specs.declared.wiring.Wiring.TheVariants.{Cube}
+use Rattle.single_crash.specs.Bounds.{one_dead_on}
+use Rattle.single_crash.specs.declared.bounds.OneDead.{OneDead}
 use Rattle.sheet.specs.Text.{width, widest}
 use Rattle.sheet.specs.Printed.{boards_text, ahead_text, dead_text}
 use Rattle.sheet.specs.SizeLines.{each_below}
@@ -65,15 +69,26 @@ tests_head columns =
 abbrev pub list_width : ℕ → List ℕ → ℕ
 list_width n row = max (widest n row) (length (codes "whom it tests, in order"))
 
--- after how many rounds, that of its death among them, and after how many grants all live boards know one more dead board, at most
+-- under a bus master: after how many rounds and grants one dead board is known everywhere, where something is claimed
+abbrev pub bounds_line : Option OneDead → List ℕ
+bounds_line None = []
+bounds_line (Some known) =
+    codes "Under a bus master, one board at a time: after at most " ++ decimal known.rounds ++ codes " rounds, " ++ decimal known.grants ++ codes " grants\n"
+
+-- that of n boards, if nobody is dead by the row
+unfoldable pub master_text : ℕ → List ℕ → List ℕ
+master_text n row = if count_by (λ dead. dead == 0) row == length row then bounds_line (one_dead_on Cube n) else []
+
+-- after how many rounds, that of its death among them, and after how many grants all live boards know one more dead board, at most; and under a
+-- bus master
 unfoldable pub known_text : ℕ → List ℕ → List ℕ
 known_text n row =
     codes "One more dead board is known everywhere after at most " ++ decimal (suc (worst_latency (dimension n))) ++ codes " rounds, "
-    ++ decimal (most_until_known n row) ++ codes " grants"
+    ++ decimal (most_until_known n row) ++ codes " grants\n" ++ master_text n row
 
 -- the sheet of a plant of n boards, by their row
 abbrev pub sheet_text : ℕ → List ℕ → List ℕ
 sheet_text n row =
-    decimal n ++ codes " boards, dead:" ++ dead_text row ++ codes "\n" ++ known_text n row ++ codes "\n\n" ++ tests_head (list_width n row)
+    decimal n ++ codes " boards, dead:" ++ dead_text row ++ codes "\n" ++ known_text n row ++ codes "\n" ++ tests_head (list_width n row)
     ++ live_lines (tests_line n row (list_width n row)) row n
     ++ codes "\nboard  whom it does not test (who stands ahead)\n" ++ live_lines (untested_line n row) row n

@@ -23,12 +23,13 @@ Usage: ./sheet SIZE [DEAD BOARDS ..]
 Prints the commissioning sheet of a plant of SIZE boards, 2 to 64, of which those
 named are dead and every live board knows it: ./sheet 8 4
 SIZE has one to three digits, a board one or two.
-First: after how many rounds and grants one more dead board is known everywhere.
+First: after how many rounds and grants one more dead board is known everywhere, and
+under a bus master, where nobody is dead and that is proved of the size.
 For each live board: whom it tests, in order; how many tests these are, and the most
 with one more dead board; whom it does not test, and who stands ahead.
 
 --sizes prints for each size the most tests of a board, with nobody and with one dead,
-and those rounds and grants with nobody dead before.
+those rounds and grants with nobody dead before, and the grants under a bus master.
 
 What changed since the last call is proved and built first; on a fresh clone that
 is everything, and takes some minutes. Standard error says what is proved.

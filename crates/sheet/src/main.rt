@@ -1,6 +1,6 @@
 // The commissioning sheet: `sheet SIZE [DEAD BOARDS ..]` prints for each live board of a plant, whose dead boards are known to all, which boards it
 // tests, how many, the most that one more dead board can make of it, and who stands ahead where it does not test; and before these after how many
-// rounds and grants one more dead board is known everywhere. `sheet --sizes` prints the most tests of a board at every size, and those rounds.
+// rounds and grants one more dead board is known everywhere. `sheet --sizes` prints the most tests of a board at every size, and those figures.
 #![tactic(auto)]
 
 mod boards;

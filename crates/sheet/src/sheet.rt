@@ -4,14 +4,16 @@ ghost use Rattle.std.specs.Fmt.{DisplaysOnOk};
 ghost use Rattle.sheet.specs.Printed.{dead_from, dead_one, further_boards, untested_text, further_untested};
 ghost use Rattle.sheet.specs.Text.{digits, width, list_columns, widest};
 ghost use Rattle.sheet.specs.Layout.{spaces, board_cell, count_cells, tests_head};
-ghost use Rattle.sheet.specs.Layout.{tests_line, untested_line, live_line, live_lines};
+ghost use Rattle.sheet.specs.Layout.{master_text, tests_line, untested_line, live_line, live_lines};
 
 use crate::boards::Plant;
 use arrayvec::ArrayVec;
 use latency::figures;
+use single_crash::bounds;
 use slots::untested::Untested;
 use std::fmt;
 use table::Station;
+use table::wiring::Wiring;
 
 // The head of the lists of tests.
 const LIST_HEAD: &str = "whom it tests, in order";
@@ -31,7 +33,7 @@ impl fmt::Display for Sheet {
         let columns = widest(plant).max(LIST_HEAD.len());
         writeln!(
             f,
-            "{} boards, dead:{}\n{}\n",
+            "{} boards, dead:{}\n{}",
             plant.size,
             Dead(plant),
             Known(plant)
@@ -62,7 +64,7 @@ impl<'a> fmt::Display for Dead<'a> {
     }
 }
 
-// After how many rounds and grants one more dead board of a plant is known everywhere.
+// After how many rounds and grants one more dead board of a plant is known everywhere; and where nobody is dead, under a bus master.
 #[derive(Clone, Copy)]
 struct Known<'a>(&'a Plant);
 
@@ -75,10 +77,30 @@ impl<'a> fmt::Display for Known<'a> {
     fn fmt<W: fmt::Write>(&self, f: &mut fmt::Formatter<W>) -> fmt::Result {
         let rounds = 1 + figures::worst_rounds(self.0.size);
         let grants = self.0.most_until_known();
-        write!(
+        writeln!(
             f,
             "One more dead board is known everywhere after at most {rounds} rounds, {grants} grants"
-        )
+        )?;
+        write_under_master(f, self.0)
+    }
+}
+
+// After how many rounds and grants one dead board is known everywhere under a bus master, where nobody is dead and that is proved of the size.
+#[tactic(auto, unfolding(crate::specs::Layout::master_text))]
+fn write_under_master<W: fmt::Write>(f: &mut fmt::Formatter<W>, plant: &Plant) -> fmt::Result
+    ensures { let row = take plant.now.size plant.now.row in
+        DisplaysOnOk W.write_str_gives f.old result (Some (master_text plant.now.size row)) f.new }
+{
+    if plant.live_boards() != plant.row().len() {
+        return Ok(());
+    }
+    match bounds::one_dead_on(Wiring::Cube, plant.size) {
+        Some(known) => writeln!(
+            f,
+            "Under a bus master, one board at a time: after at most {} rounds, {} grants",
+            known.rounds, known.grants
+        ),
+        None => Ok(()),
     }
 }
 

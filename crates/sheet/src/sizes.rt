@@ -7,13 +7,15 @@ ghost use Rattle.latency.specs.Figures.{most_until_known};
 ghost use Rattle.sheet.specs.SizeLines.{size_cells, known_cells};
 
 use latency::figures;
+use single_crash::bounds;
 use std::fmt;
+use table::wiring::Wiring;
 
 // The head of the table.
 const HEAD: &str = "\
-| boards | nobody dead | one dead | rounds | grants | boards | nobody dead | one dead | rounds | grants \
-| boards | nobody dead | one dead | rounds | grants |
-|--:|--:|--:|--:|--:|--:|--:|--:|--:|--:|--:|--:|--:|--:|--:|
+| boards | nobody dead | one dead | rounds | grants | bus master | boards | nobody dead | one dead | rounds | grants | bus master \
+| boards | nobody dead | one dead | rounds | grants | bus master |
+|--:|--:|--:|--:|--:|--:|--:|--:|--:|--:|--:|--:|--:|--:|--:|--:|--:|--:|
 ";
 
 #[derive(Clone, Copy)]
@@ -37,7 +39,7 @@ impl fmt::Display for SizeTable {
     }
 }
 
-// The five cells of a size: the most tests of a board with nobody dead, and with any one dead; and the rounds and grants until that one is known.
+// The six cells of a size: the most tests of a board with nobody dead, and with any one dead; and the rounds and grants until that one is known.
 fn write_size<W: fmt::Write>(f: &mut fmt::Formatter<W>, n: u8) -> fmt::Result
     requires { n ≤ 64 }
     ensures { DisplaysOnOk W.write_str_gives f.old result (Some (size_cells n)) f.new }
@@ -48,7 +50,8 @@ fn write_size<W: fmt::Write>(f: &mut fmt::Formatter<W>, n: u8) -> fmt::Result
     write_known(f, n)
 }
 
-// Two of them: after how many rounds and after how many grants one dead board is known everywhere, with nobody dead before.
+// Three of them: after how many rounds and after how many grants one dead board is known everywhere, with nobody dead before, and after how many
+// grants of a bus master.
 #[tactic(auto, unfolding(crate::specs::SizeLines::known_cells))]
 fn write_known<W: fmt::Write>(f: &mut fmt::Formatter<W>, n: u8) -> fmt::Result
     requires { n ≤ 64 }
@@ -56,7 +59,11 @@ fn write_known<W: fmt::Write>(f: &mut fmt::Formatter<W>, n: u8) -> fmt::Result
 {
     let rounds = 1 + figures::worst_rounds(n);
     let grants = most_until_known(n);
-    write!(f, "| {rounds} | {grants} ")
+    write!(f, "| {rounds} | {grants} ")?;
+    match bounds::one_dead_on(Wiring::Cube, n) {
+        Some(known) => write!(f, "| {} ", known.grants),
+        None => f.write_str("| - "),
+    }
 }
 
 // After how many grants one dead board is known everywhere, with nobody dead before.

@@ -19,6 +19,8 @@ use Rattle.slots.specs.Board.{slot_answer}
 use Rattle.slots.specs.declared.board.Slot.{Slot}
 use Rattle.latency.specs.Wait.{wait_answer}
 use Rattle.latency.specs.declared.wait.Wait.{Wait}
+use Rattle.single_crash.specs.Bounds.{one_dead_answer}
+use Rattle.single_crash.specs.declared.bounds.OneDead.{OneDead}
 use Rattle.input.specs.Input.{Reading, lines, read_input}
 use Rattle.input.specs.Fault.{fault_in}
 use Rattle.input.specs.Words.{fault_words}
@@ -153,6 +155,13 @@ wait_out rounds turns until from =
 
 abbrev pub wait_figures : Wiring → ℕ → List ℕ → Wait
 wait_figures w n t = result_unwrap_or (wait_answer w n t) (wait_out 0 0 0 0)
+
+-- One dead board: the two bounds, both 0 where the call is refused, and where nothing is claimed
+abbrev pub one_dead_out : ℕ → ℕ → OneDead
+one_dead_out rounds grants = record { rounds = rounds; grants = grants }
+
+abbrev pub one_dead_figures : Wiring → ℕ → OneDead
+one_dead_figures w n = unwrap_or (result_unwrap_or (one_dead_answer w n) None) (one_dead_out 0 0)
 
 -- a buffer for words has just so many bytes, of which the last is 0 in every answer
 abbrev pub words_length : ℕ

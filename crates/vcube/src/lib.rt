@@ -29,12 +29,13 @@ ghost use Rattle.vcube.specs.Exports.{on_wiring, no_such_wiring, run_on_none, dr
 ghost use Rattle.vcube.specs.Exports.{outcome_out, drive_out, pair_out, pair_of, tally_of, loaded_out, filled, figures_members};
 ghost use Rattle.slots.specs.Board.{slot_answer};
 ghost use Rattle.latency.specs.Wait.{wait_answer};
+ghost use Rattle.single_crash.specs.Bounds.{one_dead_answer};
 ghost use Rattle.std.proofs.lemmas.List.Edits.{sets};
 ghost use Rattle.input.specs.Input.{read_input};
 ghost use Rattle.vcube.specs.WordsFit.{InputWordsFit};
 ghost use Rattle.vcube.specs.Exports.{schedule_length, words_length, worded, words_of_input, input_check, input_out, input_figures, schedule_after};
 ghost use Rattle.vcube.specs.Exports.{input_words_after};
-ghost use Rattle.vcube.specs.Exports.{slot_out, slot_figures, wait_out, wait_figures};
+ghost use Rattle.vcube.specs.Exports.{slot_out, slot_figures, wait_out, wait_figures, one_dead_out, one_dead_figures};
 ghost use Rattle.vcube.specs.Exports.{words_check, words_after, words_of_refusal, words_of_status, words_of_outcome};
 ghost use Rattle.vcube.specs.Exports.{version_number};
 ghost use Rattle.vcube.specs.Exports.{totals_members, totals_with, figures_out, totals_out};
@@ -50,6 +51,7 @@ use lists::bytes;
 use lists::refusal::{Refusal, number_of, parts};
 use plant::{Tally, run};
 use saved::{Loaded, convert, load, save};
+use single_crash::bounds;
 use slots::board::{self, Slot};
 use station::outcome::Outcome;
 use station::{due, groups, rows};
@@ -505,6 +507,33 @@ pub extern "C" fn vcube_wait(
     *turns_per_round = wait.turns_per_round as usize;
     *turns_until_known = wait.turns_until_known as usize;
     *turns_from_crash = wait.turns_from_crash as usize;
+    number
+}
+
+// One dead board under a bus master, with nobody dead before: after how many rounds and grants it is known everywhere, into rounds and grants; both 0
+// where it is refused, and at a size for which nothing is proved.
+#[tactic(auto, using(crate::proofs::OnWiring::on_each))]
+#[unsafe(no_mangle)]
+pub extern "C" fn vcube_one_dead(
+    wiring: usize,
+    n: usize,
+    rounds: &mut usize,
+    grants: &mut usize,
+) -> u8
+    ensures number { result
+        ≡ on_wiring wiring no_such_wiring (λ w. number_of_result (one_dead_answer w n)) }
+    ensures bounds_after { one_dead_out rounds.new grants.new
+        ≡ on_wiring wiring (one_dead_out 0 0) (λ w. one_dead_figures w n) }
+{
+    let Ok(wiring) = Wiring::try_from(wiring) else {
+        *rounds = 0;
+        *grants = 0;
+        return NO_SUCH_WIRING;
+    };
+    let (number, known) = parts(bounds::one_dead(wiring, n), None);
+    let known = known.unwrap_or_default();
+    *rounds = known.rounds as usize;
+    *grants = known.grants as usize;
     number
 }
 

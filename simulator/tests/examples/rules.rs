@@ -2,11 +2,12 @@
 //! itself.
 
 use crate::documents::{due, group};
-use crate::plant::{driven, Plant, CUBE, RING};
+use crate::plant::{driven, Plant, CUBE, HEAD, RING};
 use simulator::{
     assignment, board_exchanged, board_next, board_replied, board_row, convert, converted_length,
-    doubt_lamp, drive, figures, join_totals, load, mend, read_input, save, saved_size, slot,
-    totals, wait, Cable, Fraction, Given, Slot, SCHEDULE_LENGTH, WORDS_LENGTH,
+    doubt_lamp, drive, figures, grant, join_totals, load, mend, one_dead, read_input, save,
+    saved_size, slot, totals, wait, Cable, Fraction, Given, OneDead, Slot, SCHEDULE_LENGTH,
+    WORDS_LENGTH,
 };
 
 const RULES: &str = include_str!("../../../docs/RULES.md");
@@ -200,6 +201,95 @@ fn waits_sheets_and_slots() {
     plant.run(&[3, 0, 3, 1]);
     assert_eq!(of_slot(&plant, 2), (3, 5));
     assert_eq!(of_slot(&plant.without(&[0, 1]), 2), (4, 7));
+}
+
+/// The number, rounds and grants for one dead board.
+fn of_one_dead(wiring: usize, n: usize) -> (u8, usize, usize) {
+    let OneDead {
+        number,
+        rounds,
+        grants,
+    } = one_dead(wiring, n);
+    (number, rounds, grants)
+}
+
+#[test]
+fn one_dead_board() {
+    for (n, grants) in [(4, 11), (8, 34), (16, 89), (32, 216), (64, 503)] {
+        assert_eq!(of_one_dead(CUBE, n), (0, 2, grants));
+    }
+    for (n, grants) in [(4, 12), (5, 17), (8, 32), (63, 307), (64, 312)] {
+        assert_eq!(of_one_dead(RING, n), (0, 3, grants));
+    }
+    for (wiring, n) in [2, 3, 5, 6, 7, 9, 31, 33, 63]
+        .map(|n| (CUBE, n))
+        .into_iter()
+        .chain([(RING, 2), (RING, 3)])
+    {
+        assert_eq!(of_one_dead(wiring, n), (0, 0, 0));
+    }
+    for (wiring, n, number) in [(0, 8, 24), (3, 65, 24), (CUBE, 65, 1), (RING, 1, 1)] {
+        assert_eq!(of_one_dead(wiring, n), (number, 0, 0));
+    }
+}
+
+/// How many rounds and grants it takes from this crash until it is known.
+fn taken(fresh: &Plant, mut last: usize, grants: usize, dead: usize) -> (usize, usize) {
+    let table = fresh.table.clone();
+    let mut plant = Plant { table, ..*fresh };
+    let mut turn = |plant: &mut Plant| {
+        let (number, station) = grant(plant.wiring, plant.n, &plant.table, last);
+        assert_eq!((number, plant.run(&[1, station]).0), (0, 0));
+        last = station.into();
+    };
+    (0..grants).for_each(|_| turn(&mut plant));
+    let before = plant.tally.0;
+    assert_eq!(plant.run(&[3, dead as u8]).0, 0);
+    let is_known = |plant: &Plant| {
+        let mut live = (0..plant.n).filter(|station| *station != dead);
+        live.all(|station| {
+            let row = plant.line(station)[HEAD..].iter().enumerate();
+            row.map(|(k, byte)| (k == dead, *byte == 1))
+                .all(|(is_dead, is_suspected)| is_dead == is_suspected)
+        })
+    };
+    for grants in 0.. {
+        if is_known(&plant) {
+            // A round in the middle of which it is known counts as one.
+            let is_closed = (0..plant.n).all(|station| plant.line(station)[1..4] == [1, 0, 0]);
+            let rounds = (plant.tally.0 - before) as usize + usize::from(!is_closed);
+            return (rounds, grants);
+        }
+        turn(&mut plant);
+    }
+    unreachable!()
+}
+
+/// Of small plants each board dies before each grant of a round, with each last granted
+/// number: the slowest takes just what is answered, of four on the cube one grant less.
+#[test]
+fn one_dead_board_is_known_as_late_as_that() {
+    let plants = [
+        (CUBE, 4),
+        (CUBE, 8),
+        (RING, 4),
+        (RING, 5),
+        (RING, 6),
+        (RING, 8),
+    ];
+    for (wiring, n) in plants {
+        let fresh = Plant::fresh(wiring, n);
+        let mut most = (0, 0);
+        for last in (0..n).chain([255]) {
+            let round = drive(wiring, n, &mut fresh.table.clone(), (0, 0), last).grants;
+            for (grants, dead) in (0..round).flat_map(|k| (0..n).map(move |dead| (k, dead))) {
+                let (rounds, grants) = taken(&fresh, last, grants, dead);
+                most = (most.0.max(rounds), most.1.max(grants));
+            }
+        }
+        let (rounds, grants) = (most.0, most.1 + usize::from((wiring, n) == (CUBE, 4)));
+        assert_eq!(of_one_dead(wiring, n), (0, rounds, grants), "{wiring} {n}");
+    }
 }
 
 #[test]

@@ -3,7 +3,7 @@
 //! include/vcube.h adds what the simulator does not know: numbers of any width, and where figures go. A row is its start in the table and its
 //! length. A doubt lamp that has no pair gives 255 for both stations.
 
-use simulator::{Figures, Given, Totals};
+use simulator::{Figures, Fraction, Given, Totals};
 
 use crate::call::{members, number, Answer, Call};
 
@@ -35,25 +35,15 @@ fn make(name: &str, arguments: &mut [Vec<u8>]) -> u8 {
         }
         ("vcube_row", [wiring, n, table, station, start, length]) => {
             let (wiring, n, station) = (wide(wiring), wide(n), narrow(station));
-            let number = simulator::row_refusal(wiring, n, table, station);
             let row = simulator::row(wiring, n, table, station);
-            if number == 0 {
-                put(start, row.as_ptr() as usize - table.as_ptr() as usize);
-            } else {
-                put(start, 0);
-            }
+            let from = (row.as_ptr() as usize).wrapping_sub(table.as_ptr() as usize);
+            put(start, if row.is_empty() { 0 } else { from });
             put(length, row.len());
-            number
+            simulator::row_refusal(wiring, n, table, station)
         }
         ("vcube_run", [wiring, n, table, rounds, tests, schedule, sheet, taken]) => {
-            let given = simulator::run(
-                wide(wiring),
-                wide(n),
-                table,
-                tally(rounds, tests),
-                schedule,
-                sheet,
-            );
+            let (wiring, n, before) = (wide(wiring), wide(n), tally(rounds, tests));
+            let given = simulator::run(wiring, n, table, before, schedule, sheet);
             put_tally(rounds, tests, (given.rounds, given.tests));
             put(taken, given.taken);
             given.number
@@ -64,13 +54,8 @@ fn make(name: &str, arguments: &mut [Vec<u8>]) -> u8 {
             number
         }
         ("vcube_drive", [wiring, n, table, rounds, tests, last, grants]) => {
-            let given = simulator::drive(
-                wide(wiring),
-                wide(n),
-                table,
-                tally(rounds, tests),
-                wide(last),
-            );
+            let (wiring, n, before) = (wide(wiring), wide(n), tally(rounds, tests));
+            let given = simulator::drive(wiring, n, table, before, wide(last));
             put_tally(rounds, tests, (given.rounds, given.tests));
             put(last, given.last);
             put(grants, given.grants);
@@ -90,6 +75,12 @@ fn make(name: &str, arguments: &mut [Vec<u8>]) -> u8 {
             put(turns, given.turns_per_round);
             put(known, given.turns_until_known);
             put(crash, given.turns_from_crash);
+            given.number
+        }
+        ("vcube_one_dead", [wiring, n, rounds, grants]) => {
+            let given = simulator::one_dead(wide(wiring), wide(n));
+            put(rounds, given.rounds);
+            put(grants, given.grants);
             given.number
         }
         ("vcube_mend", [wiring, n, table, report, changes]) => {
@@ -114,17 +105,17 @@ fn make(name: &str, arguments: &mut [Vec<u8>]) -> u8 {
         ("vcube_figures_of_list", [list, figures]) => {
             put_figures(figures, &simulator::figures(&results(list)))
         }
-        ("vcube_figures_of_two_lists", [first, second, figures]) => put_figures(
-            figures,
-            &simulator::figures_of_two(&results(first), &results(second)),
-        ),
+        ("vcube_figures_of_two_lists", [first, second, figures]) => {
+            let given = simulator::figures_of_two(&results(first), &results(second));
+            put_figures(figures, &given)
+        }
         ("vcube_totals_of_list", [list, totals]) => {
             put_totals(totals, &simulator::totals(&results(list)))
         }
-        ("vcube_join_totals", [first, second, joined]) => put_totals(
-            joined,
-            &simulator::join_totals(&totals(first), &totals(second)),
-        ),
+        ("vcube_join_totals", [first, second, joined]) => {
+            let given = simulator::join_totals(&totals(first), &totals(second));
+            put_totals(joined, &given)
+        }
         ("vcube_figures_of_totals", [given, figures]) => {
             put_figures(figures, &simulator::figures_of_totals(&totals(given)))
         }
@@ -147,14 +138,14 @@ fn make(name: &str, arguments: &mut [Vec<u8>]) -> u8 {
         ("vcube_board_row", [wiring, n, own, line, packed]) => {
             simulator::board_row(given(wiring, n, own), line, packed)
         }
-        ("vcube_board_replied", [wiring, n, own, line, packed, outcome]) => put_byte(
-            outcome,
-            simulator::board_replied(given(wiring, n, own), line, packed),
-        ),
-        ("vcube_board_not_replied", [wiring, n, own, line, outcome]) => put_byte(
-            outcome,
-            simulator::board_not_replied(given(wiring, n, own), line),
-        ),
+        ("vcube_board_replied", [wiring, n, own, line, packed, outcome]) => {
+            let given = simulator::board_replied(given(wiring, n, own), line, packed);
+            put_byte(outcome, given)
+        }
+        ("vcube_board_not_replied", [wiring, n, own, line, outcome]) => {
+            let given = simulator::board_not_replied(given(wiring, n, own), line);
+            put_byte(outcome, given)
+        }
         ("vcube_board_told", [wiring, n, own, line, by]) => {
             simulator::board_told(given(wiring, n, own), line, narrow(by))
         }
@@ -221,26 +212,26 @@ fn results(bytes: &[u8]) -> Vec<u16> {
 }
 
 fn totals(bytes: &[u8]) -> Totals {
-    let member = |k: usize| number(&bytes[8 * k..][..8]);
+    let members: Vec<u64> = bytes.chunks_exact(8).map(number).collect();
+    let [count, sum, squares, least, greatest] = members[..] else {
+        panic!("not the bytes of totals");
+    };
     Totals {
         number: 0,
-        count: member(0),
-        sum: member(1),
-        squares: member(2),
-        least: member(3),
-        greatest: member(4),
+        count,
+        sum,
+        squares,
+        least,
+        greatest,
     }
 }
 
 /// Count, sum, squares, least, greatest.
 pub fn members_of(totals: &Totals) -> [u64; 5] {
-    [
-        totals.count,
-        totals.sum,
-        totals.squares,
-        totals.least,
-        totals.greatest,
-    ]
+    let Totals {
+        least, greatest, ..
+    } = *totals;
+    [totals.count, totals.sum, totals.squares, least, greatest]
 }
 
 fn put_totals(place: &mut Vec<u8>, totals: &Totals) -> u8 {
@@ -249,14 +240,9 @@ fn put_totals(place: &mut Vec<u8>, totals: &Totals) -> u8 {
 }
 
 fn put_figures(place: &mut Vec<u8>, figures: &Figures) -> u8 {
-    let [mean, variance] = [&figures.mean, &figures.variance];
-    let fractions = [mean.upper, mean.lower, variance.upper, variance.lower];
-    *place = members(
-        &[
-            &[figures.count, figures.least, figures.greatest],
-            &fractions[..],
-        ]
-        .concat(),
-    );
+    let fraction = |one: &Fraction| [one.upper, one.lower];
+    let [mean, variance] = [&figures.mean, &figures.variance].map(fraction);
+    let integers = [figures.count, figures.least, figures.greatest];
+    *place = members(&[&integers[..], &mean, &variance].concat());
     figures.number
 }

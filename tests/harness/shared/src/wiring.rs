@@ -16,13 +16,6 @@ impl Wiring {
         self as usize
     }
 
-    pub fn text(self) -> &'static str {
-        match self {
-            Wiring::Cube => "cube",
-            Wiring::Ring => "ring",
-        }
-    }
-
     pub fn other(self) -> Wiring {
         match self {
             Wiring::Cube => Wiring::Ring,

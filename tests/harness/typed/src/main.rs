@@ -752,6 +752,20 @@ fn make(function: &str, lent: &mut [Argument]) -> Option<Made> {
             }
             number(given)
         }
+        ("vcube_one_dead", [Size(wired), Size(n), Figure(rounds), Figure(grants)]) => {
+            let Some(wiring) = wiring(*wired) else {
+                let number = by_numbers!(vcube_one_dead(*wired, *n, rounds, grants));
+                return Some(ByNumbers(number));
+            };
+            let given = one_dead(wiring, *n);
+            match Plant::new(wiring, *n) {
+                Ok(plant) => assert_eq!(Ok(plant.one_dead()), given),
+                Err(refusal) => assert_eq!(given, Err(refusal)),
+            }
+            let known = given.unwrap_or(None);
+            (*rounds, *grants) = known.map_or((0, 0), |known| (known.rounds, known.grants));
+            number(given)
+        }
         (
             "vcube_mend",
             [

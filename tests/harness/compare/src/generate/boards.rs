@@ -191,7 +191,7 @@ fn heard(own: usize, from: usize, n: Size, table: &[u8], random: &mut Random) ->
 
 #[cfg(test)]
 mod tests {
-    use std::collections::BTreeSet;
+    use std::collections::{BTreeMap, BTreeSet};
 
     use shared::groups;
 
@@ -211,40 +211,33 @@ mod tests {
         ("vcube_board_round_closed", &[0, 1, 3, 9, 24, 25]),
     ];
 
-    /// Statuses and outcomes of a turn that is taken: a board that is told leaves, one that comes to be alone too.
-    const TURNS: [(&str, &[(u8, u64)]); 2] = [
-        (
-            "vcube_board_replied",
-            &[(0, 0), (0, 1), (0, 5), (2, 2), (3, 5)],
-        ),
-        ("vcube_board_not_replied", &[(0, 0), (0, 3), (3, 3)]),
-    ];
-
     #[test]
     fn all_refusals_and_outcomes_come() {
-        let (mut numbers, mut turns) = (BTreeSet::new(), BTreeSet::new());
+        let (mut numbers, mut turns) = (BTreeMap::new(), BTreeMap::new());
         for k in 0..15_000 {
             let random = &mut Random::numbered(1, k);
             let n = groups::random_size(random);
             let call = call(random.pick(&Wiring::ALL), n, random);
             let (name, answer) = (call.function.name, answer(&call));
-            numbers.insert((name, answer.number));
-            if answer.number == 0 && TURNS.iter().any(|(of_turn, _)| *of_turn == name) {
-                let (wiring, outcome) = (&call.arguments[0], answer.arguments.last().unwrap());
-                let status = answer.arguments[3][0];
-                turns.insert((name, number(wiring), status, number(outcome)));
+            let of_function: &mut BTreeSet<u8> = numbers.entry(name).or_default();
+            of_function.insert(answer.number);
+            if answer.number == 0 && name.ends_with("replied") {
+                let [wiring, outcome] = [&call.arguments[0], answer.arguments.last().unwrap()];
+                let of_wiring: &mut BTreeSet<_> = turns.entry((name, number(wiring))).or_default();
+                of_wiring.insert((answer.arguments[3][0], number(outcome)));
             }
         }
-        let listed = NUMBERS
-            .iter()
-            .flat_map(|(name, listed)| listed.iter().map(|k| (*name, *k)));
-        assert_eq!(numbers, listed.collect());
-        let of_wiring = |wiring| {
-            let turns = TURNS
-                .iter()
-                .flat_map(|(name, listed)| listed.iter().map(|turn| (*name, *turn)));
-            turns.map(move |(name, (status, outcome))| (name, wiring, status, outcome))
-        };
-        assert_eq!(turns, of_wiring(1).chain(of_wiring(2)).collect());
+        let listed = NUMBERS.map(|(name, listed)| (name, listed.iter().copied().collect()));
+        assert_eq!(numbers, BTreeMap::from(listed));
+        // Statuses and outcomes of a turn that is taken: a board that is told leaves, one that comes to be alone too.
+        for wiring in [1, 2] {
+            let replied = [(0, 0), (0, 1), (0, 5), (2, 2), (3, 5)];
+            assert_eq!(turns[&("vcube_board_replied", wiring)], replied.into());
+            let not_replied = [(0, 0), (0, 3), (3, 3)];
+            assert_eq!(
+                turns[&("vcube_board_not_replied", wiring)],
+                not_replied.into()
+            );
+        }
     }
 }

@@ -247,15 +247,9 @@ fn saved_plant(size: Size, random: &mut Random) -> Vec<u8> {
     let mut fields = SECOND.fields(size, &table, random);
     spoil_some(&mut fields, size, &SECOND, random);
     if random.once_in(7) {
-        unsort(&mut fields, random);
+        reorder(&mut fields, 1, random);
     }
-    if random.once_in(7) {
-        spoil_opening(&mut fields, random);
-    }
-    if random.once_in(8) {
-        put_between(&mut fields, random);
-    }
-    spoiled_bytes(&fields, random)
+    spoiled_bytes(fields, random)
 }
 
 /// The fields of a plant in edition 1, with changes. Now and then a status is none.
@@ -265,15 +259,14 @@ fn stored_plant(size: Size, random: &mut Random) -> Vec<u8> {
         table[random.below(size) * line_length(size)] = random.pick(&[4, 4, 5, 255]);
     }
     let mut fields = FIRST.fields(size, &table, random);
-    put_in_order(&mut fields, random);
-    spoil_some(&mut fields, size, &FIRST, random);
-    if random.once_in(6) {
-        put_between(&mut fields, random);
+    if !random.once_in(3) {
+        reorder(&mut fields, 0, random);
     }
+    spoil_some(&mut fields, size, &FIRST, random);
     if random.once_in(30) {
         fields.insert(0, opening());
     }
-    spoiled_bytes(&fields, random)
+    spoiled_bytes(fields, random)
 }
 
 /// A table. Now and then the first or the last station suspects itself.
@@ -288,19 +281,21 @@ fn plant(size: Size, random: &mut Random) -> Vec<u8> {
 
 /// Often makes one field wrong, sometimes one more.
 fn spoil_some(fields: &mut Vec<Field>, size: Size, edition: &Edition, random: &mut Random) {
-    if random.once_in(3) {
-        spoil(fields, size, edition, random);
-    }
-    if random.once_in(6) {
-        spoil(fields, size, edition, random);
+    for times in [2, 6] {
+        if random.once_in(times) {
+            spoil(fields, size, edition, random);
+        }
     }
 }
 
-/// The bytes of these fields, now and then some of them wrong.
-fn spoiled_bytes(fields: &[Field], random: &mut Random) -> Vec<u8> {
-    let mut file = bytes(fields);
+/// The bytes of these fields, now and then with others between, and now and then some of them wrong.
+fn spoiled_bytes(mut fields: Vec<Field>, random: &mut Random) -> Vec<u8> {
     if random.once_in(8) {
-        spoil_bytes(&mut file, fields, random);
+        put_between(&mut fields, random);
+    }
+    let mut file = bytes(&fields);
+    if random.once_in(8) {
+        spoil_bytes(&mut file, &fields, random);
     }
     file
 }
@@ -316,258 +311,139 @@ fn bytes(fields: &[Field]) -> Vec<u8> {
     fields.iter().flat_map(Field::bytes).collect()
 }
 
-/// Often another order than the writer's, of a stored file.
-fn put_in_order(fields: &mut [Field], random: &mut Random) {
+/// Another order of the fields behind so many: of all, or of the lines.
+fn reorder(fields: &mut [Field], front: usize, random: &mut Random) {
+    let places = [front, front, front + 2].map(|place| place.min(fields.len()));
+    let part = &mut fields[random.pick(&places)..];
+    let end = part.len();
     match random.below(8) {
-        0 => fields.reverse(),
-        // The lines first.
-        1 => fields.rotate_left(2),
-        // The lines in any order.
-        2 => random.shuffle(&mut fields[2..]),
-        3 | 4 => random.shuffle(fields),
-        5 => fields.swap(0, 1),
-        _ => {}
-    }
-}
-
-/// Puts the fields after the first in a wrong order.
-fn unsort(fields: &mut [Field], random: &mut Random) {
-    let Some(([_], behind)) = fields.split_first_chunk_mut() else {
-        return;
-    };
-    let lines = behind.len().min(2);
-    match random.below(14) {
-        0 => behind.reverse(),
-        // The lines first.
-        1 => behind.rotate_left(lines),
-        2 => random.shuffle(behind),
-        // The tally before the size, the size or the tally at the end.
-        3 => behind[..lines].reverse(),
-        4 => behind.rotate_left(lines.min(1)),
-        5 if lines == 2 => behind[1..].rotate_left(1),
-        // A line before the tally or before the size.
-        6 if lines == 2 => behind[random.below(2)..].rotate_right(1),
-        // The lines.
-        7 | 8 => behind[lines..].reverse(),
-        9 => random.shuffle(&mut behind[lines..]),
-        10 if behind.len() > 3 => {
-            let place = random.between(3, behind.len() - 1);
-            behind.swap(2, place);
-        }
-        _ if behind.len() > 3 => {
-            let place = random.between(3, behind.len() - 1);
-            behind.swap(place - 1, place);
+        0 => part.reverse(),
+        1 | 2 => random.shuffle(part),
+        3 => part.rotate_left(random.pick(&[1, 2]).min(end)),
+        4 => part.rotate_right(1.min(end)),
+        5 if end > 0 => part.swap(random.below(end), random.below(end)),
+        _ if end > 2 => {
+            // Two neighbours.
+            let any = random.between(2, end - 1);
+            let place = random.pick(&[1, 2, any, any]);
+            part.swap(place - 1, place);
         }
         _ => {}
     }
 }
 
-/// The opening is dropped, has other contents or another tag, stands elsewhere or
-/// twice.
-fn spoil_opening(fields: &mut Vec<Field>, random: &mut Random) {
-    let end = fields.len();
-    let contents = &mut fields[0].contents;
-    match random.below(16) {
-        0..=3 => {
-            fields.remove(0);
-            if random.once_in(3) {
-                set_size(fields, random);
-            }
-        }
-        4 | 5 => *contents = vec![1],
-        6 => *contents = vec![random.pick(&[0, 3, 3, 4, 255])],
-        7 => contents.clear(),
-        8 => contents.push(random.pick(&[0, 2])),
-        9 | 10 => fields[0].tag = random.pick(&[0, 1, 3, 5, 255]),
-        11 => fields[..2].reverse(),
-        12 => fields.rotate_left(1),
-        13 => fields.insert(1, opening()),
-        14 => fields.push(opening()),
-        _ => fields.insert(random.between(1, end), opening()),
-    }
-}
-
-/// One to three fields of other tags, at any places, seldom before all.
+/// One to three fields of other tags, at any places.
 fn put_between(fields: &mut Vec<Field>, random: &mut Random) {
     let pair = [random.pick(&OTHER_TAGS), random.pick(&OTHER_TAGS)];
     for _ in 0..random.pick(&[1, 1, 2, 3]) {
-        let other = Field {
-            tag: random.pick(&pair),
-            contents: other_contents(fields, random),
+        let end = fields.len();
+        let contents = match random.below(16) {
+            0..=2 => Vec::new(),
+            3 => vec![EDITION],
+            // Such as are a field themselves.
+            4..=6 if end > 0 => fields[random.below(end)].bytes(),
+            7 => vec![random.byte(); 256 * random.between(1, 3) + random.below(12)],
+            8 if random.once_in(2) => vec![random.byte(); LONGEST],
+            _ => {
+                let length = random.between(1, 12);
+                random.bytes(length)
+            }
         };
-        let place = match random.below(10) {
-            0 => 0,
-            1 => 1,
-            2 => 2,
-            3 => 3,
-            4 | 5 => fields.len(),
-            _ => random.below(fields.len() + 1),
-        };
-        fields.insert(place.min(fields.len()), other);
+        let any = random.below(end + 1);
+        let place = random.pick(&[0, 1, 2, 3, end, end, any, any, any, any]);
+        let tag = random.pick(&pair);
+        fields.insert(place.min(end), Field { tag, contents });
     }
 }
 
-/// The contents of a field of another tag: sometimes such as are a field
-/// themselves, sometimes long ones.
-fn other_contents(fields: &[Field], random: &mut Random) -> Vec<u8> {
-    match random.below(16) {
-        0..=2 => Vec::new(),
-        3 => vec![EDITION],
-        4..=6 if !fields.is_empty() => fields[random.below(fields.len())].bytes(),
-        7 => vec![random.byte(); 256 * random.between(1, 3) + random.below(12)],
-        8 if random.once_in(2) => vec![random.byte(); LONGEST],
-        _ => {
-            let length = random.between(1, 12);
-            random.bytes(length)
-        }
-    }
-}
-
-/// Makes the size field, the tally field or a line wrong.
+/// Makes a field wrong: the opening, the size, the tally, or a line, often that of the first or of the last station.
 fn spoil(fields: &mut Vec<Field>, size: Size, edition: &Edition, random: &mut Random) {
-    match random.below(13) {
-        0 | 1 => spoil_front(fields, SIZE, edition, random),
-        2 | 3 => spoil_front(fields, TALLY, edition, random),
-        4 | 5 => set_size(fields, random),
-        6 => {
-            set_size(fields, random);
-            spoil_front(fields, TALLY, edition, random);
-        }
-        _ => spoil_line(fields, size, edition, random),
-    }
-}
-
-/// The place of a field with this tag, if there is one.
-fn find(fields: &[Field], tag: u8, random: &mut Random) -> Option<usize> {
-    let numbered = fields.iter().enumerate();
-    let found = numbered.filter(|(_, field)| field.tag == tag);
-    let places: Vec<usize> = found.map(|(place, _)| place).collect();
-    (!places.is_empty()).then(|| random.pick(&places))
-}
-
-/// The size field or the tally field is dropped, doubled or has a wrong length.
-fn spoil_front(fields: &mut Vec<Field>, tag: u8, edition: &Edition, random: &mut Random) {
-    let Some(place) = find(fields, tag, random) else {
+    let tag = random.pick(&[
+        OPENING, OPENING, SIZE, SIZE, TALLY, TALLY, LINE, LINE, LINE, LINE,
+    ]);
+    let any = random.below(size);
+    let station = random.pick(&[0, size - 1, any]);
+    let of_tag =
+        |field: &Field| field.tag == tag && (tag != LINE || field.station() == Some(station));
+    let Some(place) = fields.iter().position(of_tag) else {
         return;
     };
-    match random.below(7) {
-        0 | 1 => drop(fields.remove(place)),
-        2 => edition.double(fields, place, |_| {}, random),
-        3 => edition.double(fields, place, change_last, random),
-        4 => fields[place].contents.clear(),
-        5 => fields[place].contents.push(random.byte()),
-        _ => shorten(&mut fields[place]),
-    }
-}
-
-impl Edition {
-    /// Adds the field a second time, changed: at any place, or mostly beside the
-    /// first.
-    fn double(
-        &self,
-        fields: &mut Vec<Field>,
-        place: usize,
-        change: fn(&mut Field),
-        random: &mut Random,
-    ) {
-        let mut second = fields[place].clone();
-        change(&mut second);
-        let place = match self.is_second && !random.once_in(5) {
-            true => place + random.below(2),
-            false => random.below(fields.len() + 1),
-        };
-        fields.insert(place, second);
-    }
-}
-
-/// Changes the last byte of the contents, if there is one.
-fn change_last(field: &mut Field) {
-    if let Some(byte) = field.contents.last_mut() {
-        *byte ^= 1;
-    }
-}
-
-/// Another size, mostly a wrong one.
-fn set_size(fields: &mut [Field], random: &mut Random) {
-    if let Some(place) = find(fields, SIZE, random) {
-        let any = random.byte();
-        let contents = &mut fields[place].contents;
-        *contents = vec![random.pick(&[0, 1, 65, 255, any])];
-    }
-}
-
-/// The place of a line: often that of the first or of the last station.
-fn find_line(fields: &[Field], size: Size, random: &mut Random) -> Option<usize> {
-    let station = random.pick(&[0, size - 1, size]);
-    let is_one = |field: &Field| field.tag == LINE && field.station() == Some(station);
-    let found = fields.iter().position(is_one);
-    found.or_else(|| find(fields, LINE, random))
-}
-
-/// A line is dropped, doubled, or has a wrong length or a wrong station, or there
-/// is an empty one in front of all.
-fn spoil_line(fields: &mut Vec<Field>, size: Size, edition: &Edition, random: &mut Random) {
-    let Some(place) = find_line(fields, size, random) else {
-        return;
-    };
-    let first = fields.iter().position(|field| field.tag == LINE);
     let contents = &mut fields[place].contents;
-    match random.below(24) {
-        0 | 1 => drop(fields.remove(place)),
-        2 => edition.double(fields, place, |_| {}, random),
-        3 => edition.double(fields, place, change_last, random),
-        4 => edition.double(fields, place, shorten, random),
-        5 => edition.double(fields, place, |field| field.contents.clear(), random),
-        6 => contents.clear(),
-        7 => contents.push(0),
-        8 => shorten(&mut fields[place]),
-        // The line without its station.
-        9 => drop(contents.drain(..contents.len().min(1))),
-        10 => contents.resize(1 + edition.head + distances(size), 0),
-        11 | 17 => set_station(contents, size, random),
-        // One station twice, another not at all.
-        12 => set_station(contents, random.below(size), random),
-        22 => {
-            let station = fields[place].station().unwrap_or(0);
-            let twice = random.pick(&[station + 1, station.saturating_sub(1)]);
-            if let Some(first) = fields[place].contents.first_mut() {
-                *first = twice as u8;
+    match random.below(if tag == SIZE { 34 } else { 17 }) {
+        0..=2 => drop(fields.remove(place)),
+        3..=6 => double(fields, place, size, edition, random),
+        7 => contents.clear(),
+        8 => contents.push(random.pick(&[0, 2, 255])),
+        9 => drop(contents.pop()),
+        10 => drop(contents.drain(..contents.len().min(1))),
+        11 => fields[place].tag = random.pick(&[0, 1, 3, 5, 255]),
+        12 => {
+            let field = fields.remove(place);
+            fields.insert(random.below(fields.len() + 1), field);
+        }
+        // With the absent numbers.
+        13 if tag == LINE => contents.resize(1 + edition.head + distances(size), 0),
+        13 => fields.retain(|field| field.tag != LINE),
+        // Of the size.
+        17.. => *contents = vec![random.pick(&[0, 1, 65, 255])],
+        _ => set_first(contents, size, random),
+    }
+}
+
+/// Adds the field a second time, mostly changed: beside the first, at the end, or, more often where the order is free, anywhere.
+fn double(
+    fields: &mut Vec<Field>,
+    place: usize,
+    size: Size,
+    edition: &Edition,
+    random: &mut Random,
+) {
+    let mut second = fields[place].clone();
+    match random.below(6) {
+        0 => {}
+        1 => {
+            if let Some(last) = second.contents.last_mut() {
+                *last ^= 1;
             }
         }
-        13 => fields.retain(|field| field.tag != LINE),
-        19 | 21 => fields[first.unwrap_or(place)].contents.clear(),
-        20 => fields.insert(first.unwrap_or(place), empty_line()),
-        18 => {
-            let station = contents.first().copied().map_or(0, usize::from);
-            set_station(contents, station + 1, random);
-        }
-        _ => add_station(fields, place, size, random),
+        2 => drop(second.contents.pop()),
+        3 => second.contents.clear(),
+        _ => set_first(&mut second.contents, size, random),
     }
+    let (beside, end) = (place + random.below(2), fields.len());
+    let place = match random.below(5) {
+        0 => random.below(end + 1),
+        1 => end,
+        _ if edition.is_second => beside,
+        _ => random.below(end + 1),
+    };
+    fields.insert(place, second);
 }
 
-/// A further line behind all, of a station of n or more, as it is at this place.
-fn add_station(fields: &mut Vec<Field>, place: usize, size: Size, random: &mut Random) {
-    let mut further = fields[place].clone();
-    set_station(&mut further.contents, size, random);
-    let end = fields.iter().rposition(|field| field.tag == LINE);
-    fields.insert(end.map_or(0, |end| end + 1), further);
-}
-
-fn empty_line() -> Field {
-    Field {
-        tag: LINE,
-        contents: Vec::new(),
-    }
-}
-
-fn shorten(field: &mut Field) {
-    field.contents.pop();
-}
-
-/// Mostly this station; sometimes one that is too high for every size.
-fn set_station(contents: &mut [u8], station: usize, random: &mut Random) {
+/// Another first byte: that of an opening, a size or a station, mostly a wrong one.
+fn set_first(contents: &mut [u8], size: Size, random: &mut Random) {
     if let Some(first) = contents.first_mut() {
-        *first = random.pick(&[station, station, station + 1, 64, 128, 255]) as u8;
+        let near = [
+            size as u8,
+            size as u8 + 1,
+            first.saturating_add(1),
+            first.saturating_sub(1),
+        ];
+        let others = [
+            0,
+            1,
+            3,
+            64,
+            65,
+            128,
+            255,
+            random.byte(),
+            random.below(size) as u8,
+        ];
+        *first = match random.once_in(2) {
+            true => random.pick(&near),
+            false => random.pick(&others),
+        };
     }
 }
 

@@ -118,7 +118,7 @@ fn of_file(random: &mut Random) -> Call {
 fn of_plant(random: &mut Random) -> Call {
     let size = groups::random_size(random);
     let wiring = random.pick(&Wiring::ALL);
-    match random.below(53) {
+    match random.below(55) {
         0 | 1 => plants::fresh_table(wiring, size, random),
         2..=5 => plants::group_list(size, random),
         6 | 7 => plants::assignment(size, random),
@@ -129,6 +129,7 @@ fn of_plant(random: &mut Random) -> Call {
         25..=28 => plants::mend(wiring, size, random),
         29 | 30 => plants::slot(size, random),
         31..=34 => plants::wait(wiring, size, random),
+        35 | 36 => plants::one_dead(wiring, size, random),
         _ => plants::run(wiring, size, random),
     }
 }

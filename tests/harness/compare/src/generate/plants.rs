@@ -82,6 +82,12 @@ pub fn wait(wiring: Wiring, n: Size, random: &mut Random) -> Call {
     Call::new("wait", [wiring, size(given), table], random)
 }
 
+pub fn one_dead(wiring: Wiring, n: Size, random: &mut Random) -> Call {
+    let n = size(numbers::given_size(n, random));
+    let wiring = wiring_number(wiring, random);
+    Call::new("one_dead", [wiring, n], random)
+}
+
 pub fn row(wiring: Wiring, n: Size, random: &mut Random) -> Call {
     let (given, table) = tables::given(wiring, n, random);
     let wiring = wiring_number(wiring, random);

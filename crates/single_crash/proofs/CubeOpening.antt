@@ -1,0 +1,197 @@
+-- On the cube, the slowest plant before the crash: behind last granted number 4 board 5 has made three turns after 2n + 1 grants, and boards 1 and 4
+-- two, with nobody behind them.
+-- Assumes nothing.
+use mathlib.Core.Path.{◌≡◌, refl, ◌∙◌}
+use mathlib.Core.Logic.{◌≢◌, by_cases}
+use mathlib.Core.Bool.{true}
+use mathlib.Core.List.{List}
+use Prim.Native.Nat.{ℕ, zero, suc, ◌+◌, ◌*◌, ◌-◌, ◌≤◌, ◌<◌}
+use native.Mathlib.Nat.{mul-suc, suc-mul, mul-zero}
+use native.Mathlib.Decide.{ℕ_discrete, dec_lt}
+use native.Mathlib.Omega.{arith}
+use borrow.Author.Tests.{ne_eqb}
+use Rattle.lists.specs.Sums.{sum_below}
+use Rattle.lists.proofs.BoolLaws.{by_bool}
+use Rattle.lists.proofs.SumLaws.{sum_by, sum-add, sum-const}
+use Rattle.table.specs.declared.wiring.Wiring.TheVariants.{Cube}
+use Rattle.table.specs.Table.{finished}
+use Rattle.table.specs.Rules.{round_over}
+use Rattle.plant.specs.Turn.{kind_turn, turn}
+use Rattle.slots.proofs.Counts.{sum-le}
+use Rattle.granter.specs.Grant.{waits}
+use Rattle.granter.specs.Fairness.{stations_before}
+use Rattle.granter.specs.Drive.{Stand, granted_at, grant_turn, after_grants}
+use Rattle.detection.proofs.RoundKnowledge.{all-finished}
+use Rattle.single_crash.specs.Sweeps.{turns_made}
+use Rattle.single_crash.proofs.Running.{Crew, Running, chosen, kept, moved, goes_on}
+use Rattle.single_crash.proofs.Crashing.{everyone}
+use Rattle.single_crash.proofs.Passes.{turns_left, left-turn}
+use Rattle.single_crash.proofs.OnRing.{left_of}
+use Rattle.single_crash.proofs.RingStages.{at_place, sum-at}
+use Rattle.single_crash.proofs.CubePace.{Cubic, OnPace}
+use Rattle.single_crash.proofs.CubeWhole.{all_live, full_crew, whole-pace}
+use Rattle.single_crash.proofs.CubeOrder.{turns-granted, last-turn, first-turn}
+
+-- after k grants of the first round: nobody has made fewer turns than board 4, or more than board 5
+pub record Opening (n d k : ℕ) (p : Stand) : Type 0 where
+  pub running : Running Cube n everyone 5 p
+  pub pace : (i : ℕ) → i < n → OnPace n d p.state.table i
+  pub lag : (i : ℕ) → i < n → turns_made n p.state.table 4 ≤ turns_made n p.state.table i
+  pub lead : (i : ℕ) → i < n → turns_made n p.state.table i ≤ turns_made n p.state.table 5
+  pub counted : k + left_of n everyone (λ i. d) p.state.table ≡ n * suc d
+
+module _ (n d : ℕ) (c : Cubic n d) (three : 3 ≤ d) (eight : 8 ≤ n) where
+  module _ (k : ℕ) (p : Stand) (o : Opening n d k p) where
+    abbrev t : List ℕ
+    t = p.state.table
+
+    abbrev g : ℕ
+    g = granted_at n p
+
+    abbrev t' : List ℕ
+    t' = turn Cube n t kind_turn g
+
+    abbrev crew : Crew Cube n everyone
+    crew = full_crew n d c
+
+    below : g < n
+    below = (chosen Cube n everyone crew 5 p o.running).0
+
+    present : (i : ℕ) → i < n → i ≢ n
+    present i h e = omega arith
+
+    pace' : (i : ℕ) → i < n → OnPace n d t' i
+    pace' = whole-pace n d c 5 p o.running o.pace
+
+    one-less : suc (left_of n everyone (λ i. d) t') ≡ left_of n everyone (λ i. d) t
+    one-less =
+        let m = moved Cube n everyone crew 5 p o.running in
+        left-turn n everyone (λ i. d) (turns_made n t) (turns_made n t') g below refl
+        (turns-granted n d n everyone c (all_live n d c) (omega arith) p o.running (λ i h q. o.pace i h) (present g below)) m.own m.others
+
+    -- a round that closes has no turn left
+    none-left : round_over n t' ≡ true → left_of n everyone (λ i. d) t' ≡ 0
+    unfolding turns_left
+    none-left over =
+        let plain = (kept Cube n everyone crew 5 p o.running).plain in
+        let each : (i : ℕ) → i < n → turns_left everyone (λ i. d) (turns_made n t') i ≡ 0 =
+        λ i h. let f = all-finished Cube n everyone t' plain over i h refl in omega (arith, f, (pace' i h).ended f) in
+        sum_by n each ∙ (sum-const 0 n ∙ mul-zero n)
+
+    opening-next : suc k < n * suc d → Opening n d (suc k) (grant_turn Cube n p)
+    opening-next more =
+        by_bool (round_over n t')
+        (λ over. absurd (omega (arith, none-left over, one-less, o.counted)))
+        (λ on.
+        let w = goes_on Cube n everyone crew 5 p o.running on in
+        let five : 5 < n = omega arith in
+        let pace : (i : ℕ) → i < n → i ≢ n → OnPace n d t i = λ i h q. o.pace i h in
+        let apart = present g below in
+        record {
+          running = w.running;
+          pace = rw w.table pace';
+          lag = rw w.table (λ i h.
+              last-turn n d n everyone c (all_live n d c) five p o.running pace (present 4 (omega arith)) (λ i h q. o.lag i h) i h (present i h));
+          lead = rw w.table (λ i h.
+              first-turn n d n everyone c (all_live n d c) five p o.running pace (present 5 five) apart (λ i h q. o.lead i h) i h (present i h));
+          counted = rw w.table (omega (arith, one-less, o.counted));
+        })
+
+  pub opening-after : (p : Stand) (k : ℕ) → k < n * suc d → Opening n d 0 p → Opening n d k (after_grants Cube n p k)
+  unfolding after_grants
+  opening-after p zero more o = o
+  opening-after p (suc k) more o = opening-next k _ (opening-after p k (omega arith) o) more
+
+  -- after 2n + 1 grants
+  module _ (p : Stand) (o : Opening n d (2 * n + 1) p) where
+    abbrev u : List ℕ
+    u = p.state.table
+
+    abbrev most : ℕ → ℕ
+    most i = turns_left everyone (λ i. d) (turns_made n u) i
+
+    -- n·(d − 3), of which n·(d + 1) is 4n more
+    rest : ℕ
+    rest = n * (d - 3)
+
+    whole : n * suc d ≡ rest + 4 * n
+    unfolding rest
+    whole =
+        let e : suc (suc (suc (d - 3))) ≡ d = omega arith in
+        omega (arith, mul-suc n d, rw e at (mul-suc n (suc (suc (d - 3)))), mul-suc n (suc (d - 3)), mul-suc n (d - 3))
+
+    times : (k : ℕ) → k ≤ 3 → n * (d - 3 + k) ≡ rest + k * n
+    unfolding rest
+    times zero l = let e : d - 3 + 0 ≡ d - 3 = omega arith in rw e (omega arith)
+    times (suc k) l =
+        let e : d - 3 + suc k ≡ suc (d - 3 + k) = omega arith in
+        rw e (omega (arith, mul-suc n (d - 3 + k), times k (omega arith), suc-mul k n))
+
+    total : sum_below most n + 2 * n + 1 ≡ rest + 4 * n
+    total = omega (arith, o.counted, whole)
+
+    at-least : (k : ℕ) → k ≤ 3 → ((i : ℕ) → i < n → d - 3 + k ≤ most i) → rest + k * n ≤ sum_below most n
+    at-least k l each = omega (arith, sum-le {f = λ i. d - 3 + k} {g = most} n each, sum-const (d - 3 + k) n, times k l)
+
+    at-most : (k : ℕ) → k ≤ 3 → ((i : ℕ) → i < n → most i ≤ d - 3 + k) → sum_below most n ≤ rest + k * n
+    at-most k l each = omega (arith, sum-le {f = most} {g = λ i. d - 3 + k} n each, sum-const (d - 3 + k) n, times k l)
+
+    low : turns_made n u 4 < 3
+    unfolding turns_left
+    low =
+        by_cases (dec_lt (turns_made n u 4) 3) (λ l. l)
+        (λ l. absurd (omega (arith, total, at-most 1 (omega arith) (λ i h. omega (arith, o.lag i h)))))
+
+    -- board 4 has not finished, so that the others have made a turn more at the most
+    last-waits : waits n u 4 ≡ true
+    unfolding waits
+    last-waits =
+        let going : finished n u 4 ≢ 1 = λ f. omega (arith, low, f, (o.pace 4 (omega arith)).ended f) in
+        rw (o.running.plain.lives 4 (omega arith), ne_eqb (finished n u 4) 1 going) refl
+
+    high : (i : ℕ) → i < n → turns_made n u i ≤ suc (turns_made n u 4)
+    high i h =
+        let s = o.running.sweep in
+        by_cases (dec_lt (stations_before n 5 4) s.passed)
+        (λ l. omega (arith, s.most i h, s.done 4 (omega arith) last-waits l))
+        (λ l. omega (arith, s.most i h, s.to_come 4 (omega arith) last-waits (omega arith)))
+
+    pub last-two : turns_made n u 4 ≡ 2
+    unfolding turns_left
+    last-two =
+        by_cases (ℕ_discrete (turns_made n u 4) 0)
+        (λ z. absurd (omega (arith, total, at-least 3 (omega arith) (λ i h. omega (arith, high i h, z)))))
+        (λ z. by_cases (ℕ_discrete (turns_made n u 4) 1)
+        (λ e. absurd (omega (arith, total, at-least 2 (omega arith) (λ i h. omega (arith, high i h, e)))))
+        (λ e. omega (arith, low, z, e)))
+
+    pub first-three : turns_made n u 5 ≡ 3
+    unfolding turns_left
+    first-three =
+        by_cases (dec_lt (turns_made n u 5) 3)
+        (λ l. absurd (omega (arith, total, at-least 2 (omega arith) (λ i h. omega (arith, o.lead i h)))))
+        (λ l. omega (arith, high 5 (omega arith), last-two))
+
+    -- board 5 is the only one that has made three
+    pub dying-two : turns_made n u 1 ≡ 2
+    unfolding turns_left
+    dying-two =
+        by_cases (dec_lt (turns_made n u 1) 3)
+        (λ l. omega (arith, o.lag 1 (omega arith), last-two))
+        (λ l.
+        let extra : ℕ → ℕ = λ i. at_place 5 1 i + at_place 1 1 i in
+        let each : (i : ℕ) → i < n → most i + extra i ≤ d - 3 + 2 =
+        λ i h. by_cases (ℕ_discrete i 5) (λ e. rw e (omega (arith, first-three)))
+        (λ e. by_cases (ℕ_discrete i 1) (λ f. rw f (omega (arith, l)))
+        (λ f. rw (ne_eqb i 5 e, ne_eqb i 1 f) (omega (arith, o.lag i h, last-two)))) in
+        absurd (omega (
+          arith,
+          total,
+          sum-le {f = λ i. most i + extra i} {g = λ i. d - 3 + 2} n each,
+          sum-const (d - 3 + 2) n,
+          times 2 (omega arith),
+          sum-add most extra n,
+          sum-add (at_place 5 1) (at_place 1 1) n,
+          sum-at n 5 1 (omega arith),
+          sum-at n 1 1 (omega arith),
+        )))

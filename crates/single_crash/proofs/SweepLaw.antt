@@ -1,0 +1,184 @@
+-- A grant with its turn, whatever the wiring and whoever suspects whom; and that grants go in sweeps.
+-- Assumes nothing.
+use mathlib.Core.Path.{◌≡◌, refl}
+use mathlib.Core.Logic.{by_cases}
+use mathlib.Core.Bool.{true, false, ◌&&◌}
+use mathlib.Core.List.{List}
+use Prim.Native.Nat.{ℕ, zero, suc, ◌≤◌, ◌<◌}
+use native.Mathlib.Decide.{ℕ_discrete}
+use native.Mathlib.Omega.{arith}
+use borrow.Author.Tests.{eqb-true, eqb-false}
+use lib.Dec.{eqb}
+use Rattle.lists.proofs.BoolLaws.{by_bool}
+use Rattle.lists.proofs.SearchLaws.{both, every-at}
+use Rattle.table.specs.Table.{status_column, finished_column, tests_column, next_distance, finished, tests_made, live}
+use Rattle.table.specs.Rules.{some_live, round_over}
+use Rattle.table.specs.Properties.{line_at_start, at_start}
+use Rattle.table.proofs.SizeLaws.{size-bounds}
+use Rattle.table.proofs.Accepting.{Accepted}
+use Rattle.table.proofs.CellLaws.{accepted-line}
+use Rattle.table.specs.declared.wiring.Wiring.{Wiring}
+use Rattle.plant.specs.Turn.{kind_turn, next_test, makes_test, outcome_at, turn}
+use Rattle.plant.specs.Round.{after_round}
+use Rattle.plant.specs.Entry.{Entry, State, state_of, entry_of, entry_refusal, acted, after}
+use Rattle.plant.proofs.RulesKept.{accepted-kept}
+use Rattle.plant.proofs.RoundLaws.{reset-other}
+use Rattle.plant.proofs.RunLaws.{accepted-number}
+use Rattle.plant.proofs.TurnHeads.{Heads, turn-heads}
+use Rattle.granter.specs.Grant.{no_grant, waits, following, last_refusal, grant_refusal}
+use Rattle.granter.specs.Drive.{Stand, granted_at, grant_turn, after_grants, ended, ended_after}
+use Rattle.granter.proofs.GrantLaws.{granted-waits, waits-parts, grantable, grant-zero, station-fits, last-below, turn-taken}
+use Rattle.granter.proofs.DriveLaws.{not-ended}
+use Rattle.granter.proofs.Fair.{next-going-round}
+use Rattle.detection.proofs.Fates.{was-live}
+use Rattle.single_crash.specs.Sweeps.{turns_made, InTurn, GrantsGoInSweeps}
+use Rattle.single_crash.proofs.Sweeps.{InSweep, sweep-start, Next, Moved, sweep-next, sweep-fewest, sweep-first}
+
+-- where a round begins, the going round begins at n at the most
+pub begins-fits : (n last : ℕ) → last_refusal n last ≡ 0 → following last ≤ n
+unfolding following
+begins-fits n last fits =
+    by_bool (eqb last no_grant) (λ e. rw e (omega arith)) (λ e. rw e (omega (arith, last-below n last fits e)))
+
+-- where the drive stands in a round that began at place `begins`
+pub record Going (w : Wiring) (n begins : ℕ) (p : Stand) : Type 0 where
+  pub ok : Accepted w n p.state.table
+  pub someone : some_live n p.state.table ≡ true
+  pub last_fits : last_refusal n p.last ≡ 0
+  pub sweep : InSweep n begins (waits n p.state.table) (turns_made n p.state.table) p.last
+
+module _ (w : Wiring) (n begins : ℕ) (p : Stand) (now : Going w n begins p) where
+  abbrev t : List ℕ
+  t = p.state.table
+
+  abbrev g : ℕ
+  g = granted_at n p
+
+  abbrev t' : List ℕ
+  t' = turn w n t kind_turn g
+
+  pub chosen : (g < n) × (waits n t g ≡ true)
+  chosen = granted-waits n t now.ok.unclosed now.someone p.last
+
+  pub going : finished n t g ≡ 0
+  going =
+      let open-pass = eqb-false (finished n t g) 1 (waits-parts n t g chosen.1).1 in
+      omega (arith, open-pass, (accepted-line w n t now.ok g chosen.0).pass.finished_range)
+
+  pub heads : Heads w n t t' g (outcome_at w n t kind_turn g (next_test w n t g)) (makes_test w n t g)
+  heads = turn-heads w n t kind_turn g (now.ok.long, accepted-line w n t now.ok) chosen.0
+
+  -- it is the next in its sweep
+  pub next : Next n (waits n t) p.last g
+  next =
+      let zero = grant-zero w n t p.last (accepted-number w n t now.ok) now.last_fits now.someone in
+      record { below = chosen.0; waiting = chosen.1; nearest = (next-going-round w n t p.last zero).2 }
+
+  -- the entry, with an empty tally: tables do not depend on it
+  abbrev e : Entry
+  e = entry_of kind_turn g
+
+  abbrev s : State
+  s = state_of t 0 0
+
+  taken : entry_refusal n s e ≡ 0
+  taken = turn-taken n s g refl chosen.0 chosen.1
+
+  lived : (i : ℕ) → i < n → live n t' i ≡ true → live n t i ≡ true
+  unfolding after acted after_round
+  lived i h l = was-live w n s e now.ok taken i h (by_bool (round_over n t')
+      (λ o. rw (o, reset-other n t' i status_column (omega arith) (λ c. omega arith)) l)
+      (λ o. rw o l))
+
+  -- who waits after its turn waited before
+  waited : (i : ℕ) → i < n → waits n t' i ≡ true → waits n t i ≡ true
+  unfolding waits
+  waited i h q =
+      by_cases (ℕ_discrete i g) (λ f. rw f chosen.1)
+      (λ d.
+      let parts = waits-parts n t' i q in
+      rw (lived i h parts.0, ← (heads.others i finished_column d (omega arith)), parts.1) refl)
+
+  pub moved : Moved n (waits n t) (waits n t') (turns_made n t) (turns_made n t') g
+  moved = record {
+    waited = waited;
+    own = by_bool (makes_test w n t g) (λ m. omega (arith, going, rw m at heads.tests, rw m at heads.finish))
+        (λ m. omega (arith, going, rw m at heads.tests, rw m at heads.finish));
+    others = λ i h d. omega (arith, heads.others i finished_column d (omega arith), heads.others i tests_column d (omega arith));
+  }
+
+  -- where the round has not closed
+  module _ (fits : begins ≤ n) (rounds : ℕ) (same : p.state.rounds ≡ rounds) (unended : ended n rounds (grant_turn w n p).state ≡ false) where
+    unclosed : round_over n t' ≡ false
+    unfolding grant_turn after acted
+    unclosed =
+        let kept = (not-ended n rounds (grant_turn w n p).state unended).0 in
+        by_bool (round_over n t') (λ o. absurd (omega (arith, rw o at kept))) (λ o. o)
+
+    table : (after w n s e).table ≡ t'
+    unfolding after acted after_round
+    table = rw unclosed refl
+
+    turned : (grant_turn w n p).state.table ≡ t'
+    unfolding grant_turn after acted after_round
+    turned = rw unclosed refl
+
+    goes-on : Going w n begins (grant_turn w n p)
+    unfolding grant_turn
+    goes-on = record {
+      ok = rw (turned, ← table) (accepted-kept w n s e now.ok taken);
+      someone = (not-ended n rounds (grant_turn w n p).state unended).1;
+      last_fits = station-fits n g chosen.0;
+      sweep =
+          rw turned (sweep-next n begins (waits n t) (turns_made n t) p.last g fits now.sweep next (waits n t') (turns_made n t')
+          (size-bounds n now.ok.size).1 moved);
+    }
+
+-- after k grants
+module _ (w : Wiring) (n : ℕ) (p : Stand) (granted : grant_refusal w n p.state.table p.last ≡ 0) (start : at_start n p.state.table ≡ true) where
+  abbrev begins : ℕ
+  begins = following p.last
+
+  fits : begins ≤ n
+  fits = begins-fits n p.last (grantable w n p.state.table p.last granted).last_fits
+
+  pub none-made : (i : ℕ) → i < n → turns_made n p.state.table i ≡ 0
+  unfolding at_start
+  none-made i h =
+      let made : ℕ = tests_made n p.state.table i in
+      let done : ℕ = finished n p.state.table i in
+      let all = both (eqb (next_distance n p.state.table i) 1 && eqb done 0) (eqb made 0) (every-at (line_at_start n p.state.table) n i start h) in
+      let head = both (eqb (next_distance n p.state.table i) 1) (eqb done 0) all.0 in
+      omega (arith, eqb-true done 0 head.1, eqb-true made 0 all.1)
+
+  going-after : (k : ℕ) → ((j : ℕ) → j ≤ k → ended_after w n p j ≡ false) → Going w n begins (after_grants w n p k)
+  unfolding after_grants
+  going-after zero on =
+      let g = grantable w n p.state.table p.last granted in
+      record {
+        ok = g.ok;
+        someone = g.someone;
+        last_fits = g.last_fits;
+        sweep = sweep-start n p.last (waits n p.state.table) (turns_made n p.state.table) fits none-made;
+      }
+  going-after (suc k) on =
+      let before = going-after k (λ j h. on j (omega arith)) in
+      let same = (not-ended n p.state.rounds (after_grants w n p k).state (on k (omega arith))).0 in
+      goes-on w n begins (after_grants w n p k) before fits p.state.rounds same (on (suc k) (omega arith))
+
+  in-turn : (k : ℕ) → ((j : ℕ) → j ≤ k → ended_after w n p j ≡ false)
+      → InTurn n (after_grants w n p k).state.table (after_grants w n p k).last p.last
+  in-turn k on =
+      let q = after_grants w n p k in
+      let now = going-after k on in
+      let wait = waits n q.state.table in
+      let made = turns_made n q.state.table in
+      let chain = next w n begins q now in
+      record {
+        fewest = sweep-fewest n begins wait made q.last (granted_at n q) fits now.sweep chain;
+        first = sweep-first n begins wait made q.last (granted_at n q) fits now.sweep chain;
+      }
+
+-- the law, an end in itself
+pub grants-go-in-sweeps : GrantsGoInSweeps
+grants-go-in-sweeps w n p k granted start on = in-turn w n p granted start k on
