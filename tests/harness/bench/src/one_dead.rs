@@ -1,41 +1,20 @@
 //! One board dies under the bus master, nobody dead before: how many grants later all
 //! others know it, and in which round. Everything is done by the library's drives.
 
-use shared::groups::dimension;
 use shared::table::{HEAD, LIVE, STATUS};
-use vcube::{line_length, Driven, Entry, Kind, Plant, Refusal, Station, Wiring};
+use vcube::{line_length, Driven, Entry, Kind, OneDead, Plant, Refusal, Station, Wiring};
 
 use crate::detection::{grant_turn, worst_case};
 use crate::work::without;
 
-/// The most that any case takes: grants from the crash on, and rounds with that of the
-/// crash.
-#[derive(Clone, Copy, Debug, Default, PartialEq, Eq)]
-pub struct Most {
-    pub grants: usize,
-    pub rounds: u32,
-}
-
-/// The rules One dead board on the cube and One dead board on the ring.
-pub fn proved(wiring: Wiring, n: usize) -> Option<Most> {
-    let d = dimension(n) as usize;
-    let (grants, rounds) = match wiring {
-        _ if n < 4 => return None,
-        Wiring::Cube if n.is_power_of_two() => ((n - 1) * (d + 2) - 1, 2),
-        Wiring::Cube => return None,
-        Wiring::Ring => (5 * n - 8, 3),
-    };
-    Some(Most { grants, rounds })
-}
-
-/// Each board that crashes at each moment of the first round of a fresh plant, with each
-/// last granted number. An error if it is more than is proved; on the ring and with 8
-/// boards, where no fewer grants are enough, also if it is less.
+/// The most grants and rounds that any case takes: each board crashes at each moment of
+/// the first round of a fresh plant, with each last granted number. An error if it is more than is proved, and also if it is less, but
+/// on the cube of 4 boards, since elsewhere no fewer are enough.
 ///
 /// A crash behind a turn that is neither of that board nor a test of it is not tried: it
 /// leaves the same plant as a crash before that turn, from which one grant more is counted.
-pub fn search(wiring: Wiring, n: usize) -> Result<Most, String> {
-    let mut most = Most::default();
+pub fn search(wiring: Wiring, n: usize) -> Result<OneDead, String> {
+    let (mut grants, mut rounds) = (0, 0);
     for last in 0..n {
         let mut plant = without(wiring, n, &[]);
         plant.last = Some(Station(last));
@@ -43,41 +22,40 @@ pub fn search(wiring: Wiring, n: usize) -> Result<Most, String> {
         while plant.tally.rounds == 0 {
             for board in boards {
                 let taken = crash(plant.clone(), board)?;
-                most.grants = most.grants.max(taken.grants);
-                most.rounds = most.rounds.max(taken.rounds);
+                grants = taken.grants.max(grants);
+                rounds = taken.rounds.max(rounds);
             }
             let turn = grant_turn(&mut plant);
             boards = vec![turn.station.0];
             boards.extend(turn.tested.map(|tested| tested.0));
         }
     }
-    let is_exact = wiring == Wiring::Ring || n == 8;
-    match proved(wiring, n) {
-        Some(proved) if is_exact && most != proved => Err(differs(wiring, n, most, proved)),
-        Some(proved) if most.grants > proved.grants || most.rounds > proved.rounds => {
-            Err(differs(wiring, n, most, proved))
-        }
-        _ => Ok(most),
+    let most = OneDead { rounds, grants };
+    let Some(proved) = vcube::one_dead(wiring, n).expect("a size") else {
+        return Ok(most);
+    };
+    let is_within = most.grants <= proved.grants && most.rounds <= proved.rounds;
+    match most == proved || is_within && (wiring, n) == (Wiring::Cube, 4) {
+        true => Ok(most),
+        false => Err(format!(
+            "one dead of {n} boards, {wiring}: {most:?}; proved is {proved:?}"
+        )),
     }
-}
-
-fn differs(wiring: Wiring, n: usize, most: Most, proved: Most) -> String {
-    format!("one dead of {n} boards, {wiring}: {most:?}; proved is {proved:?}")
 }
 
 /// Lets a board crash, and drives until all others know it, or says that they do not
 /// within the worst case.
-fn crash(mut plant: Plant, board: usize) -> Result<Most, String> {
+fn crash(mut plant: Plant, board: usize) -> Result<OneDead, String> {
     let (n, wiring) = (plant.size(), plant.wiring());
     let longest = worst_case(wiring, n) + 1;
     let (kind, station) = (Kind::Crash, Station(board));
     plant.enter(Entry { kind, station }).expect("a live board");
     let mut grants = 0;
     while plant.tally.rounds < longest {
-        let rounds = plant.tally.rounds + 1;
+        let rounds = plant.tally.rounds as usize + 1;
         grants += drive_to_test(&mut plant);
         if is_known(&plant, board) {
-            return Ok(Most { grants, rounds });
+            return Ok(OneDead { rounds, grants });
         }
     }
     Err(format!(

@@ -4,7 +4,6 @@
 
 use bench::detection::worst_case;
 use bench::grants::bound_of_first_crash;
-use bench::one_dead::proved;
 use shared::groups::SIZES;
 use std::cmp::Ordering;
 use vcube::{Plant, Tally, Wiring};
@@ -105,10 +104,12 @@ fn one_dead_board_under_the_bus_master() {
     assert_eq!(sizes.len(), 12);
     for (wiring, name) in WIRINGS {
         let of = |kind: &str| row(&format!("{name}, {kind}"));
-        let grants = sizes.iter().map(|n| match proved(wiring, *n) {
-            Some(most) => (most.grants as u32, most.grants.to_string()),
-            None => (tried(wiring, *n), format!("*{}*", tried(wiring, *n))),
-        });
+        let grants = sizes
+            .iter()
+            .map(|n| match vcube::one_dead(wiring, *n).expect("a size") {
+                Some(most) => (most.grants as u32, most.grants.to_string()),
+                None => (tried(wiring, *n), format!("*{}*", tried(wiring, *n))),
+            });
         let (grants, shown): (Vec<u32>, Vec<String>) = grants.unzip();
         assert_eq!(of("bus master"), shown);
         // Of 5 ms each, rounded up.

@@ -9,7 +9,7 @@
 
 use bench::detection::{random_dead, rounds_of_slowest, rounds_until_known, worst_case, Order};
 use bench::grants::{self, Taken};
-use bench::one_dead::{self, Most};
+use bench::one_dead;
 use shared::groups::{self, dimension};
 use shared::random::Random;
 use shared::slowest;
@@ -17,7 +17,7 @@ use std::fs::{self, File};
 use std::io::Write;
 use std::process::{Command, ExitCode, Stdio};
 use std::thread;
-use vcube::{Figures, Fraction, Wiring, MOST_RESULTS};
+use vcube::{Figures, Fraction, OneDead, Wiring, MOST_RESULTS};
 
 const PAGE: &str = "docs/latency.md";
 
@@ -220,11 +220,11 @@ fn try_crashes(wiring: Wiring, n: usize, quick: bool) -> Result<Grants, String> 
 /// The most that one dead board takes on both wirings, by every case of each size from 3
 /// on; quick, of those at which all crashes are tried. With two boards the other one
 /// leaves. Or says which plant took more than is proved.
-fn try_one_dead(quick: bool) -> Result<Vec<Option<[Most; 2]>>, String> {
+fn try_one_dead(quick: bool) -> Result<Vec<Option<[OneDead; 2]>>, String> {
     let try_size = |n| match n {
         3.. if !quick || n <= MOST_SEARCHED => {
             let both = at_once(vec![Wiring::Cube, Wiring::Ring], |w| one_dead::search(w, n));
-            let both: Result<Vec<Most>, String> = both.into_iter().collect();
+            let both: Result<Vec<OneDead>, String> = both.into_iter().collect();
             both.map(|both| Some([both[0], both[1]]))
         }
         _ => Ok(None),
@@ -331,7 +331,7 @@ fn rows(
     results: &[Results],
     slowest: &[Vec<Slowest>; 2],
     grants: &[Grants],
-    one_dead: &[Option<[Most; 2]>],
+    one_dead: &[Option<[OneDead; 2]>],
 ) -> [String; 6] {
     [
         results.iter().map(row_of_size).collect(),
@@ -414,9 +414,9 @@ fn row_of_grants(row: &Grants) -> String {
 }
 
 /// The sizes by columns, each with its figures.
-fn rows_of_one_dead(one_dead: &[Option<[Most; 2]>]) -> String {
-    let figures = |most: &Most| format!("{} | {}", most.grants, most.rounds);
-    let cells = |(n, both): (usize, &Option<[Most; 2]>)| match both {
+fn rows_of_one_dead(one_dead: &[Option<[OneDead; 2]>]) -> String {
+    let figures = |most: &OneDead| format!("{} | {}", most.grants, most.rounds);
+    let cells = |(n, both): (usize, &Option<[OneDead; 2]>)| match both {
         Some([cube, ring]) => format!("| {n} | {} | {} ", figures(cube), figures(ring)),
         None => format!("| {n} | – | – | – | – "),
     };
