@@ -148,6 +148,14 @@ export class Library {
         return refused === 0 ? { rounds: rounds.value, turns: turns.value } : { refused };
     }
 
+    /// After how many closed rounds, that of its crash among them, and grants from its crash at most all others know one dead board, under a bus
+    /// master and from the start of a round with nobody dead or suspected. Nothing where that is not proved.
+    one_dead(state) {
+        const [rounds, grants] = [new Cell(8), new Cell(8)];
+        const refused = this.module.call('vcube_one_dead', BigInt(state.wiring), BigInt(state.n), rounds, grants);
+        return refused !== 0 || rounds.value === 0 ? undefined : { rounds: rounds.value, grants: grants.value };
+    }
+
     save(state) {
         const file = new Uint8Array(saved_length(state.n));
         const refused = this.module.call('vcube_save', BigInt(state.n), state.table, state.rounds, state.tests, file);

@@ -1,6 +1,6 @@
 // The page: what is opened, what the buttons do, and what is shown of a moment.
 import { CRASH, CUBE, LATE_TURN, Library, MOST_ENTRIES, NO_STATION, REFUSED, RING, TURN } from './library.mjs';
-import { copy_of, is_live, lines_of_saved, status_of, suspects, told_by } from './library.mjs';
+import { copy_of, is_live, lines_of_saved, row_of, status_of, suspects, told_by } from './library.mjs';
 import { Boards, Matrix, ago_text, suspected_by, told_text } from './tables.mjs';
 import { Circle, legend } from './circle.mjs';
 import { Messages } from './messages.mjs';
@@ -79,6 +79,22 @@ function bound_text(state) {
     return `${closed}, from the start of a round with the lamp out, if no further board crashes, no reply is late and two boards are live`;
 }
 
+/// Whether nobody is dead or suspected.
+function is_sound(state) {
+    for (let board = 0; board < state.n; board++) {
+        if (!is_live(state, board) || row_of(state, board).includes(1)) return false;
+    }
+    return true;
+}
+
+/// Nothing where that is not proved.
+function one_dead_text(state) {
+    const bound = is_sound(state) ? library.one_dead(state) : undefined;
+    if (!bound) return undefined;
+    const within = `at most ${bound.rounds} closed rounds, that of its crash among them, and ${bound.grants} grants from its crash`;
+    return `${within}, if a bus master grants from the start of a round on, no further board crashes and no reply is late`;
+}
+
 function show_facts(lamp, until) {
     const { state } = plant;
     set_text(by_id('rounds'), state.rounds.toLocaleString('en'));
@@ -89,6 +105,9 @@ function show_facts(lamp, until) {
     set_class(by_id('lamp'), lamp ? 'lamp lit' : 'lamp');
     set_text(by_id('known'), known_text(state, until));
     set_text(by_id('bound'), bound_text(state));
+    const one_dead = one_dead_text(state);
+    for (const id of ['one-dead-term', 'one-dead']) by_id(id).hidden = one_dead === undefined;
+    set_text(by_id('one-dead'), one_dead ?? '');
     set_text(by_id('grant'), granted.refused === undefined ? `Grant the next: ${granted.board}` : 'Grant the next');
 }
 

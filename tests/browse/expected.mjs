@@ -60,6 +60,12 @@ export class Simulator {
     }
 }
 
+/// After how many rounds and grants one dead board is known under a bus master, by the rule Bounds of one dead board. Nothing at other sizes.
+export function bounds_of_one_dead(n, is_ring) {
+    if (n < 4 || (!is_ring && !Number.isInteger(Math.log2(n)))) return undefined;
+    return is_ring ? [3, 5 * n - 8] : [2, (n - 1) * (Math.log2(n) + 2) - 1];
+}
+
 export const input_of = (n, entries) => `${n}\n${entries.map((entry) => `${entry}\n`).join('')}`;
 
 const is_live = (line) => line[0] === 0;

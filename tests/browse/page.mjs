@@ -5,7 +5,7 @@ import { readFileSync, writeFileSync } from 'node:fs';
 import { pathToFileURL } from 'node:url';
 import { Chromium, Firefox } from './browser.mjs';
 import { audit, focused } from './audit.mjs';
-import { Simulator, input_of, moments, rounds_until_known } from './expected.mjs';
+import { Simulator, bounds_of_one_dead, input_of, moments, rounds_until_known } from './expected.mjs';
 
 const [name, page, folder, samples, option, pictures] = process.argv.slice(2);
 const address = pathToFileURL(page).href;
@@ -202,17 +202,26 @@ async function sends(browser) {
     same((await browser.value(`press('first')`)).messages, [], 'messages before the first entry');
 }
 
-/// The bound on rounds and turns.
+/// The bounds on rounds and turns, and on one dead board while nobody is dead or suspected.
 async function bounds(browser) {
     const plants = [2, 3, 4, 5, 8, 9, 16, 17, 32, 33, 64].map((n) => ['cube', n, []]);
-    plants.push(['cube', 8, ['C 4']], ['cube', 11, ['C 0', 'C 10']], ['ring', 8, ['C 4']], ...[2, 3, 8, 63].map((n) => ['ring', n, []]));
-    for (const [wiring, n, dead] of plants) {
-        const [rounds, turns] = simulator.states(n, dead, wiring === 'ring').at(-1).wait;
-        await open(browser, link(n, dead, dead.length, wiring));
+    plants.push(['cube', 8, ['C 4']], ['cube', 11, ['C 0', 'C 10']], ['ring', 8, ['C 4']], ...[2, 3, 4, 8, 63].map((n) => ['ring', n, []]));
+    plants.push(['cube', 8, ['T 0', 'T 3']], ['cube', 8, ['L 2']]);
+    for (const [wiring, n, entries] of plants) {
+        const is_ring = wiring === 'ring';
+        const { wait: [rounds, turns] } = simulator.states(n, entries, is_ring).at(-1);
+        await open(browser, link(n, entries, entries.length, wiring));
         const said = await browser.value(`document.getElementById('bound').textContent`);
         const closed = `at most ${rounds} closed ${rounds === 1 ? 'round' : 'rounds'}, ${turns.toLocaleString('en')} turns`;
         const conditions = 'from the start of a round with the lamp out, if no further board crashes, no reply is late and two boards are live';
-        same(said, `${closed}, ${conditions}`, `the bound of ${n} boards, ${wiring}, ${dead}`);
+        same(said, `${closed}, ${conditions}`, `the bound of ${n} boards, ${wiring}, ${entries}`);
+        const shown = await browser.value(
+            `['one-dead-term', 'one-dead'].map((id) => document.getElementById(id)).filter((it) => it.checkVisibility()).map((it) => it.textContent)`,
+        );
+        const bound = entries.some((entry) => !entry.startsWith('T')) ? undefined : bounds_of_one_dead(n, is_ring);
+        const within = bound && `at most ${bound[0]} closed rounds, that of its crash among them, and ${bound[1]} grants from its crash`;
+        const text = `${within}, if a bus master grants from the start of a round on, no further board crashes and no reply is late`;
+        same(shown, bound ? ['The bound, one dead board', text] : [], `the bound of one dead board, ${n} boards, ${wiring}, ${entries}`);
     }
 }
 

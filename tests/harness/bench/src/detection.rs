@@ -5,7 +5,7 @@ use shared::groups::dimension;
 use shared::random::Random;
 use shared::slowest::Plant as Slowest;
 use shared::table::unfinished_stations;
-use vcube::{Entry, Kind, Plant, Station, Status, Wiring};
+use vcube::{Entry, Kind, Plant, SheetLine, Station, Status, Wiring};
 
 use crate::work::without;
 
@@ -107,11 +107,12 @@ fn take_turn(plant: &mut Plant, board: usize) -> bool {
     plant.tally.rounds > rounds
 }
 
-/// Grants one turn, which is then carried out.
-pub fn grant_turn(plant: &mut Plant) {
-    let granted = plant.grant().expect("a board is live");
-    plant.last = Some(granted);
-    take_turn(plant, granted.0);
+/// Grants one turn, which is then carried out. Gives its line of the run sheet.
+pub fn grant_turn(plant: &mut Plant) -> SheetLine {
+    let (kind, station) = (Kind::Turn, plant.grant().expect("a board is live"));
+    plant.last = Some(station);
+    let turn = plant.enter(Entry { kind, station });
+    turn.expect("a turn that is taken")
 }
 
 fn play_round(plant: &mut Plant, order: Order, random: &mut Random) {

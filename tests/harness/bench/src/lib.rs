@@ -6,6 +6,7 @@
 pub mod detection;
 pub mod grants;
 pub mod measure;
+pub mod one_dead;
 pub mod plain;
 pub mod plain_drive;
 pub mod plain_figures;

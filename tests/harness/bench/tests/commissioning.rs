@@ -1,22 +1,51 @@
-//! The table under "Cube or ring" of docs/COMMISSIONING.md, and what the page says of it.
+//! The tables under "Cube or ring" and "Under a bus master, one board at a time" of
+//! docs/COMMISSIONING.md, and what the page says of the first. What was tried is in
+//! docs/latency.md.
 
 use bench::detection::worst_case;
+use bench::grants::bound_of_first_crash;
 use shared::groups::SIZES;
 use std::cmp::Ordering;
 use vcube::{Plant, Tally, Wiring};
 
 const PAGE: &str = include_str!("../../../../docs/COMMISSIONING.md");
+const LATENCY: &str = include_str!("../../../../docs/latency.md");
 const WIRINGS: [(Wiring, &str); 2] = [(Wiring::Cube, "cube"), (Wiring::Ring, "ring")];
 
-/// The numbers of a row, by the words at its front.
+/// The rows of the first table behind a heading, each as its cells.
+fn rows<'a>(page: &'a str, heading: &'a str) -> impl Iterator<Item = Vec<&'a str>> {
+    let is_heading = move |line: &&str| line.trim_start_matches('#').trim() == heading;
+    let behind = page.lines().skip_while(move |line| !is_heading(line));
+    let lines = behind.skip_while(|line| !line.starts_with('|'));
+    let rows = lines.take_while(|line| line.starts_with('|'));
+    rows.map(|line| line.trim_matches('|').split('|').map(str::trim).collect())
+}
+
+/// The cells of a row of a table of this page, by the words at its front.
+fn cells(heading: &'static str, words: &str) -> Vec<&'static str> {
+    let row = rows(PAGE, heading).find(|row| row[0] == words);
+    row.expect("the row").split_off(1)
+}
+
+fn number(cell: &str) -> u32 {
+    cell.replace(',', "").parse().expect("a number")
+}
+
+/// The numbers of a row under "Cube or ring".
 fn row(words: &str) -> Vec<u32> {
-    let mut sections = PAGE.split("\n## ");
-    let section = sections.find(|text| text.starts_with("Cube or ring"));
-    let mut lines = section.expect("the section").lines();
-    let row = lines.find_map(|line| line.strip_prefix(&format!("| {words} |")));
-    let cells = row.expect("the row").trim_end_matches('|').split('|');
-    let number = |cell: &str| cell.trim().replace(',', "").parse();
-    cells.map(|cell| number(cell).expect("a number")).collect()
+    let cells = cells("Cube or ring", words);
+    cells.into_iter().map(number).collect()
+}
+
+/// The most grants that were tried of one dead board, on this wiring.
+fn tried(wiring: Wiring, n: usize) -> u32 {
+    let mut rows = rows(LATENCY, "One board under the bus master");
+    let of_size = |row: Vec<&'static str>| {
+        let mut sizes = row.chunks_exact(5);
+        let size = sizes.find(|size| size[0] == n.to_string());
+        size.map(|size| number(size[if wiring == Wiring::Cube { 1 } else { 3 }]))
+    };
+    rows.find_map(of_size).expect("the size")
 }
 
 /// The tests of a round in which nobody is dead, by a drive.
@@ -45,9 +74,6 @@ fn tests_and_waits_of_both_wirings() {
         assert_eq!(numbers(tests), row(&format!("tests a round, {name}")));
         assert_eq!(numbers(worst_case), row(&format!("wait, {name}")));
     }
-    // What the page says of them in words.
-    let of_rounds = |n| WIRINGS.map(|(wiring, _)| wait(wiring, n).1);
-    assert_eq!([of_rounds(8), of_rounds(64)], [[96, 40], [3456, 2112]]);
 }
 
 /// From 3 boards on the ring has fewer tests a round, and in L + 1 rounds. Its wait is
@@ -64,5 +90,45 @@ fn where_cube_and_ring_cross() {
     for n in SIZES.skip(1) {
         assert!(tests(Wiring::Ring, n) < tests(Wiring::Cube, n));
         assert!(wait(Wiring::Ring, n).1 < wait(Wiring::Cube, n).1);
+    }
+}
+
+/// Grants that are proved stand as they are, those that were tried in italics.
+#[test]
+fn one_dead_board_under_the_bus_master() {
+    let row = |words: &str| cells("Under a bus master, one board at a time", words);
+    let sizes: Vec<usize> = row("boards")
+        .into_iter()
+        .map(|n| number(n) as usize)
+        .collect();
+    assert_eq!(sizes.len(), 12);
+    for (wiring, name) in WIRINGS {
+        let of = |kind: &str| row(&format!("{name}, {kind}"));
+        let grants = sizes
+            .iter()
+            .map(|n| match vcube::one_dead(wiring, *n).expect("a size") {
+                Some(most) => (most.grants as u32, most.grants.to_string()),
+                None => (tried(wiring, *n), format!("*{}*", tried(wiring, *n))),
+            });
+        let (grants, shown): (Vec<u32>, Vec<String>) = grants.unzip();
+        assert_eq!(of("bus master"), shown);
+        // Of 5 ms each, rounded up.
+        let hundredths = grants.iter().map(|grants| grants.div_ceil(2));
+        let seconds = hundredths.map(|h| format!("{}.{:02}", h / 100, h % 100));
+        assert_eq!(of("seconds"), seconds.collect::<Vec<String>>());
+        let any_order = sizes
+            .iter()
+            .map(|n| bound_of_first_crash(wiring, *n) as u32);
+        let shown: Vec<u32> = of("any order").into_iter().map(number).collect();
+        assert_eq!(shown, any_order.collect::<Vec<u32>>());
+    }
+}
+
+/// With nobody dead before the ring has fewer grants at every size but 4.
+#[test]
+fn the_quicker_wiring_under_the_bus_master() {
+    for n in SIZES.skip(1) {
+        let is_quicker = tried(Wiring::Ring, n) < tried(Wiring::Cube, n);
+        assert_eq!(is_quicker, n != 4, "{n} boards");
     }
 }

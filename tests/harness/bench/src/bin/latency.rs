@@ -1,21 +1,23 @@
 //! How many rounds close until the dead boards are known, beside the bounds: the
 //! worst-case latency, which is proved, and two greater ones. Random plants, with the
 //! library's figures over their rounds, and the slowest plants of samples/slowest.txt.
-//! How many grants pass from a crash until then, beside the bound that is proved.
+//! How many grants pass from a crash until then, beside the bound that is proved; and the
+//! most where nobody is dead before, by every case.
 //!
 //! `latency` writes the rows of the tables of docs/latency.md anew, and its two pictures,
 //! under the current folder, and prints the page; `--quick` tries less, and only prints.
 
 use bench::detection::{random_dead, rounds_of_slowest, rounds_until_known, worst_case, Order};
 use bench::grants::{self, Taken};
-use shared::groups::dimension;
+use bench::one_dead;
+use shared::groups::{self, dimension};
 use shared::random::Random;
 use shared::slowest;
 use std::fs::{self, File};
 use std::io::Write;
 use std::process::{Command, ExitCode, Stdio};
 use std::thread;
-use vcube::{Figures, Fraction, Wiring, MOST_RESULTS};
+use vcube::{Figures, Fraction, OneDead, Wiring, MOST_RESULTS};
 
 const PAGE: &str = "docs/latency.md";
 
@@ -38,6 +40,9 @@ const ORDERS: [Order; 6] = [
 /// a round are tried.
 const GRANT_SIZES: [usize; 6] = [4, 8, 11, 16, 32, 64];
 const MOST_SEARCHED: usize = 16;
+
+/// In how many columns the sizes stand where each has only a few figures.
+const COLUMNS: usize = 3;
 
 /// The trials of a size, at most as many as the library takes figures over; of
 /// the delaying order an eighth.
@@ -149,9 +154,10 @@ fn work(quick: bool) -> Result<(), String> {
     let slowest = [run_slowest(Wiring::Cube)?, run_slowest(Wiring::Ring)?];
     let results = at_once(SIZES.to_vec(), |n| try_size(n, quick));
     let grants = try_grants(quick)?;
+    let one_dead = try_one_dead(quick)?;
     let failed = |error| format!("{PAGE}: {error}");
     let page = fs::read_to_string(PAGE).map_err(failed)?;
-    let page = with_rows(&page, rows(&results, &slowest, &grants))?;
+    let page = with_rows(&page, rows(&results, &slowest, &grants, &one_dead))?;
     print!("{page}");
     if quick {
         return Ok(());
@@ -161,7 +167,7 @@ fn work(quick: bool) -> Result<(), String> {
 }
 
 /// The page with these rows in its tables, each behind a head of two lines.
-fn with_rows(page: &str, rows: [String; 5]) -> Result<String, String> {
+fn with_rows(page: &str, rows: [String; 6]) -> Result<String, String> {
     let (mut text, mut rows, mut row) = (String::new(), rows.into_iter(), 0);
     for line in page.lines() {
         row = if line.starts_with('|') { row + 1 } else { 0 };
@@ -209,6 +215,22 @@ fn try_crashes(wiring: Wiring, n: usize, quick: bool) -> Result<Grants, String> 
         random: random.collect::<Result<_, _>>()?,
         searched: (n <= MOST_SEARCHED).then(search).transpose()?,
     })
+}
+
+/// The most that one dead board takes on both wirings, by every case of each size from 3
+/// on; quick, of those at which all crashes are tried. With two boards the other one
+/// leaves. Or says which plant took more than is proved.
+fn try_one_dead(quick: bool) -> Result<Vec<Option<[OneDead; 2]>>, String> {
+    let try_size = |n| match n {
+        3.. if !quick || n <= MOST_SEARCHED => {
+            let both = at_once(vec![Wiring::Cube, Wiring::Ring], |w| one_dead::search(w, n));
+            let both: Result<Vec<OneDead>, String> = both.into_iter().collect();
+            both.map(|both| Some([both[0], both[1]]))
+        }
+        _ => Ok(None),
+    };
+    let all = at_once(groups::SIZES.collect(), try_size);
+    all.into_iter().collect()
 }
 
 fn try_size(n: usize, quick: bool) -> Results {
@@ -305,7 +327,12 @@ fn draw(path: &str, name: &str, lines: String, script: &str) -> Result<(), Strin
 }
 
 /// The rows of each table.
-fn rows(results: &[Results], slowest: &[Vec<Slowest>; 2], grants: &[Grants]) -> [String; 5] {
+fn rows(
+    results: &[Results],
+    slowest: &[Vec<Slowest>; 2],
+    grants: &[Grants],
+    one_dead: &[Option<[OneDead; 2]>],
+) -> [String; 6] {
     [
         results.iter().map(row_of_size).collect(),
         slowest_rows(&slowest[0]),
@@ -315,6 +342,7 @@ fn rows(results: &[Results], slowest: &[Vec<Slowest>; 2], grants: &[Grants]) -> 
             .map(|row| row_of_wirings(row, slowest))
             .collect(),
         grants.iter().map(row_of_grants).collect(),
+        rows_of_one_dead(one_dead),
     ]
 }
 
@@ -383,4 +411,19 @@ fn row_of_grants(row: &Grants) -> String {
     let (trials, greatest) = (row.random.len(), grants::greatest(&row.random).grants);
     let Taken { grants, bound } = grants::nearest(&row.random);
     format!("| {wiring} | {n} | {searched} | {proved} | {trials} | {greatest} | {grants} of {bound} |\n")
+}
+
+/// The sizes by columns, each with its figures.
+fn rows_of_one_dead(one_dead: &[Option<[OneDead; 2]>]) -> String {
+    let figures = |most: &OneDead| format!("{} | {}", most.grants, most.rounds);
+    let cells = |(n, both): (usize, &Option<[OneDead; 2]>)| match both {
+        Some([cube, ring]) => format!("| {n} | {} | {} ", figures(cube), figures(ring)),
+        None => format!("| {n} | – | – | – | – "),
+    };
+    let cells: Vec<String> = groups::SIZES.zip(one_dead).map(cells).collect();
+    let height = cells.len().div_ceil(COLUMNS);
+    let row = |k: usize| cells[k..].iter().step_by(height).map(String::as_str);
+    (0..height)
+        .map(|k| row(k).collect::<String>() + "|\n")
+        .collect()
 }
