@@ -20,7 +20,7 @@ use Rattle.table.proofs.Accepting.{Accepted}
 use Rattle.table.specs.declared.wiring.Wiring.{Wiring}
 use Rattle.plant.specs.Turn.{makes_test, turn_tested, turn_outcome}
 use Rattle.station.specs.Outcome.{outcome_tested_told}
-use Rattle.plant.specs.Entry.{Entry, State, is_crash, entry_refusal, after, tested_of, outcome_of}
+use Rattle.plant.specs.Entry.{Entry, State, is_crash, entry_check, after, tested_of, outcome_of}
 use Rattle.plant.proofs.RulesKept.{entry-facts}
 use Rattle.plant.proofs.RunLaws.{accepted-number}
 use Rattle.detection.specs.Runs.{Call, Taken, after_runs, taken_all, table_after, is_late, crashes}
@@ -42,6 +42,7 @@ use Rattle.accuracy.proofs.Step.{CauseAt, Fared, lives, crashed, told, alone, ne
 use Rattle.accuracy.proofs.Chains.{any-before, any-last, cause-before, cause-chain, told-at}
 use Rattle.accuracy.proofs.Sums.{bit-most, sum-most, two-hits, count-sum, any-counted, none-passes}
 use Rattle.accuracy.proofs.Quiet.{Calm, Left, stayed, left_told, left_crashed, calm-chain}
+use Rattle.std.specs.Prelude.{Ok}
 
 -- where no live station suspects a live one, nobody is suspected
 pub none-suspects : (n : ℕ) (t : List ℕ) → none_suspected n t ≡ true → (j : ℕ) → j < n → IsSuspected n t j → ⊥
@@ -57,7 +58,7 @@ late-cause n t none xs j hj (inl p) = absurd (none-suspects n t none j hj p)
 late-cause n t none xs j hj (inr l) = l
 
 -- the tested station, where it is told
-tested-below : (w : Wiring) (n : ℕ) (s : State) (e : Entry) → Accepted w n s.table → entry_refusal n s e ≡ 0
+tested-below : (w : Wiring) (n : ℕ) (s : State) (e : Entry) → Accepted w n s.table → entry_check n s e ≡ Ok tt
     → outcome_of w n s.table e ≡ outcome_tested_told
     → tested_of w n s.table e < n
 unfolding outcome_of tested_of turn_outcome turn_tested
@@ -67,7 +68,7 @@ tested-below w n s e ok z =
     (λ b. rw (c, b) (λ q. absurd (omega (arith, q)))))
 
 -- a taken entry, behind those that lead from s₀ to the state that it finds
-module _ (w : Wiring) (n : ℕ) (s : State) (e : Entry) (ok : Accepted w n s.table) (z : entry_refusal n s e ≡ 0) where
+module _ (w : Wiring) (n : ℕ) (s : State) (e : Entry) (ok : Accepted w n s.table) (z : entry_check n s e ≡ Ok tt) where
   told-suspected : (k : ℕ) → k < n → live n s.table k ≡ true → status n (after w n s e).table k ≡ status_told → IsSuspected n s.table k
   told-suspected k hk l two = by (fared w n s e ok z k hk l)
     where
@@ -108,7 +109,7 @@ module _ (w : Wiring) (n : ℕ) (s : State) (e : Entry) (ok : Accepted w n s.tab
 -- what holds of each taken entry behind those before it
 each-entry : {n : ℕ} {s s' : State} {ys : List Taken} → Chain n s ys s' → (before : List Taken) (x : Taken) (rest : List Taken)
     → ys ≡ before ++ (x ∷ rest) → (P : Taken → Type 0)
-    → ((w : Wiring) (s₁ : State) (e : Entry) → Chain n s before s₁ → Accepted w n s₁.table → entry_refusal n s₁ e ≡ 0 → P (taken_at w n s₁ e)) → P x
+    → ((w : Wiring) (s₁ : State) (e : Entry) → Chain n s before s₁ → Accepted w n s₁.table → entry_check n s₁ e ≡ Ok tt → P (taken_at w n s₁ e)) → P x
 each-entry c before x rest p P make =
     let r = parted c before x rest p in
     subst (λ (m : ℕ). P (taken_at x.wiring m x.before x.entry)) (sym r.size) (make x.wiring x.before x.entry r.first r.ok r.taken)

@@ -9,7 +9,7 @@ use Rattle.table.specs.Table.{status, status_crashed, status_told, suspects, liv
 use Rattle.lists.proofs.BoolLaws.{neither}
 use Rattle.table.proofs.Accepting.{Accepted}
 use Rattle.table.specs.declared.wiring.Wiring.{Wiring}
-use Rattle.plant.specs.Entry.{Entry, State, entry_refusal, after}
+use Rattle.plant.specs.Entry.{Entry, State, entry_check, after}
 use Rattle.detection.specs.Runs.{Taken}
 use Rattle.detection.specs.Rounds.{any_taken}
 use Rattle.detection.proofs.TakenLaws.{taken_at}
@@ -18,6 +18,7 @@ use Rattle.detection.proofs.Fates.{was-live}
 use Rattle.detection.proofs.ExitRecord.{dead-chain}
 use Rattle.accuracy.specs.Cause.{IsSuspected, late_of, was_late, crash_of, has_crashed}
 use Rattle.accuracy.proofs.Step.{CauseAt, Fared, lives, crashed, told, alone, new-suspicion, fared}
+use Rattle.std.specs.Prelude.{Ok}
 
 -- q picks those stations: for each station there is another of them
 module _ (n : ℕ) (q : ℕ → Bool) (others : (i : ℕ) → (j : ℕ) × (j < n) × (i ≢ j) × (q j ≡ true)) where
@@ -32,7 +33,7 @@ module _ (n : ℕ) (q : ℕ → Bool) (others : (i : ℕ) → (j : ℕ) × (j < 
     left_told : status n s'.table i ≡ status_told → Left xs s' i
     left_crashed : status n s'.table i ≡ status_crashed → has_crashed i xs ≡ true → Left xs s' i
 
-  module _ (w : Wiring) (s : State) (e : Entry) (ok : Accepted w n s.table) (z : entry_refusal n s e ≡ 0) (calm : Calm s.table)
+  module _ (w : Wiring) (s : State) (e : Entry) (ok : Accepted w n s.table) (z : entry_check n s e ≡ Ok tt) (calm : Calm s.table)
       (quiet : (j : ℕ) → q j ≡ true → (late_of j (taken_at w n s e) ≡ false) × (crash_of j (taken_at w n s e) ≡ false)) where
     abbrev t' : List ℕ
     t' = (after w n s e).table

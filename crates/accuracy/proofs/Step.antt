@@ -21,7 +21,7 @@ use Rattle.plant.specs.Turn.{kind_turn, kind_late, leave_told, makes_test, repli
 use Rattle.plant.specs.Turn.{after_outcome, self_or_suspected, is_alone, after_alone, after_test, testing, turn, turn_tested, crash}
 use Rattle.station.specs.Outcome.{outcome_exchanged, outcome_told, outcome_tested_told}
 use Rattle.plant.specs.Round.{after_round}
-use Rattle.plant.specs.Entry.{Entry, State, is_crash, entry_refusal, acted, after, tested_of}
+use Rattle.plant.specs.Entry.{Entry, State, is_crash, entry_check, acted, after, tested_of}
 use Rattle.plant.proofs.StepCells.{leave_told-other, leave_told-status, finish_pass-other, suspect-other, exchange-other}
 use Rattle.plant.proofs.StepLines.{after_outcome-lines}
 use Rattle.plant.proofs.RoundLaws.{reset-other}
@@ -32,6 +32,7 @@ use Rattle.detection.proofs.TestingPair.{Pair, parts_of, testing-pair}
 use Rattle.detection.proofs.TurnEffect.{exchange-between}
 use Rattle.detection.proofs.Fates.{Fate, stays, leaves, hears, after-fate}
 use Rattle.accuracy.specs.Cause.{IsSuspected, late_of, crash_of}
+use Rattle.std.specs.Prelude.{Ok}
 
 -- a cause in the table, or in the entry itself
 abbrev pub CauseAt : Wiring → ℕ → State → Entry → ℕ → Type 0
@@ -45,7 +46,7 @@ pub data Fared (w : Wiring) (n : ℕ) (s : State) (e : Entry) (k : ℕ) : Type 0
   alone : k ≡ e.station → status n (after w n s e).table k ≡ status_alone
       → ((x : ℕ) → x < n → x ≢ k → suspects n (after w n s e).table k x ≡ 1) → Fared w n s e k
 
-module _ (w : Wiring) (n : ℕ) (s : State) (e : Entry) (ok : Accepted w n s.table) (z : entry_refusal n s e ≡ 0) where
+module _ (w : Wiring) (n : ℕ) (s : State) (e : Entry) (ok : Accepted w n s.table) (z : entry_check n s e ≡ Ok tt) where
   open parts_of w n s e use {before as t, tester as i, distance as m, tested as j, outcome as o, counted as u}
 
   abbrev t' : List ℕ

@@ -10,14 +10,12 @@ use lib.Dec.{eqb}
 use lib.ListN.{length, get_or, length-append, length-replicate, get_or-append, replicate}
 use Rattle.std.proofs.lemmas.List.{append-nil, length-map, get_or-map}
 use Rattle.lists.specs.Sums.{bit}
-use Rattle.lists.proofs.RefusalLaws.{check_zero}
 use Rattle.table.specs.Table.{head, live}
 use Rattle.table.specs.Line.{line, is_live}
-use Rattle.table.specs.Rules.{table_check}
 use Rattle.table.proofs.LineLaws.{line_at}
 use Rattle.table.specs.declared.wiring.Wiring.{Wiring}
 use Rattle.plant.specs.Entry.{Entry, State, state_of, tally_top}
-use Rattle.plant.specs.Run.{entries, start_check, start_refusal, go_on, run}
+use Rattle.plant.specs.Run.{entries, start_check, go_on, run}
 use Rattle.plant.proofs.RunLaws.{accepted-number}
 use Rattle.detection.specs.Runs.{Call, Taken, call_of, after_run, after_runs, taken_from, taken_in, taken_all, taken_test, is_turn_of}
 use Rattle.detection.specs.Rounds.{count_taken, tests_in}
@@ -30,6 +28,7 @@ use Rattle.board_detection.specs.Detect.{BoardsBegin, TurnsInTime, board_tests, 
 use Rattle.board_detection.proofs.Steps.{Beside}
 use Rattle.board_detection.proofs.Rounds.{Alike, SameRounds, same-rounds, tests-alike, turns-alike}
 use Rattle.board_detection.proofs.FirstTable.{hold, live-is, fresh, ok, start, two_live, none, count-is}
+use Rattle.std.specs.Prelude.{Ok}
 
 -- entries as a schedule
 bytes_of : List Entry → List ℕ
@@ -78,10 +77,10 @@ module _ (w : Wiring) (n : ℕ) (b : Lines) (es : List Entry) (begin : BoardsBeg
   same : SameRounds w n s b [] es
   same = same-rounds w n s b es beside turns t [] (fresh w n b begin) (counts_start n t)
 
-  starts : start_refusal w n t (length (bytes_of es)) (length sheet) ≡ 0
+  starts : start_check w n t (length (bytes_of es)) (length sheet) ≡ Ok tt
   unfolding start_check
   starts =
-      let check = check_zero (table_check w n t) (accepted-number w n t (ok w n b begin)) in
+      let check = accepted-number w n t (ok w n b begin) in
       let even : length (bytes_of es) % 2 ≡ 0 = omega (arith, even-bytes es) in
       rw (check, even, eq-eqb (length sheet) (2 * length (bytes_of es)) (length-replicate (2 * length (bytes_of es)) 0))
 

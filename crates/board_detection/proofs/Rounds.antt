@@ -4,14 +4,13 @@ use mathlib.Core.Path.{◌≡◌, refl, sym, ap, ap₂, ◌∙◌}
 use mathlib.Core.Bool.{Bool, true, false, not, ◌&&◌}
 use mathlib.Core.List.{List, [], ◌∷◌, ◌++◌, map}
 use Prim.Native.Nat.{ℕ, suc, ◌+◌, ◌<◌}
-use borrow.Author.Tests.{eq-eqb}
 use lib.Dec.{eqb}
 use Rattle.lists.proofs.BoolLaws.{by_bool}
 use Rattle.lists.specs.Sums.{bit}
 use Rattle.table.specs.Rules.{round_over}
 use Rattle.table.specs.declared.wiring.Wiring.{Wiring}
 use Rattle.plant.specs.Round.{reset_lines, after_round}
-use Rattle.plant.specs.Entry.{Entry, State, entry_refusal, acted, after, sheet_line}
+use Rattle.plant.specs.Entry.{Entry, State, entry_check, acted, after, sheet_line}
 use Rattle.plant.specs.Run.{write_line, go_on}
 use Rattle.plant.proofs.RulesKept.{acted-lines}
 use Rattle.plant.proofs.RoundLaws.{Reset, reset-cells}
@@ -24,6 +23,7 @@ use Rattle.cable.specs.Boards.{Lines, Hold, after_act, all_finished, after_entry
 use Rattle.board_detection.specs.Detect.{TurnInTime, TurnsInTime, board_tests, counts_by_round}
 use Rattle.board_detection.proofs.Steps.{Beside, beside-after, no_crash, takes, in_time, test-same, over, counted, closing-same}
 use Rattle.table.proofs.WiringLaws.{same-itself}
+use Rattle.std.specs.Prelude.{Ok}
 
 -- q of an entry that boards take is r of the one that the table takes
 abbrev pub Alike : Wiring → ℕ → (Lines → Entry → Bool) → (Taken → Bool) → Type 0
@@ -49,7 +49,7 @@ module _ (w : Wiring) (n : ℕ) (s : State) (b : Lines) (e : Entry) (es : List E
   abbrev t' : List ℕ
   t' = acted w n s.table e
 
-  is_taken : entry_refusal n s e ≡ 0
+  is_taken : entry_check n s e ≡ Ok tt
   is_taken = takes w n s b e at turn
 
   -- what is to be shown of the rest, in the round that started with u₀ and has the entries `now` so far
@@ -63,8 +63,8 @@ module _ (w : Wiring) (n : ℕ) (s : State) (b : Lines) (e : Entry) (es : List E
   unfolding after after_round taken_from all_taken cut count_taken counts_by_round go_on after_entries
   step rest = by_bool (all_finished n (after_act w n b e)) closing going
     where
-      z : eqb (entry_refusal n s e) 0 ≡ true
-      z = eq-eqb (entry_refusal n s e) 0 is_taken
+      z : entry_check n s e ≡ Ok tt
+      z = is_taken
 
       same : closes here x ≡ all_finished n (after_act w n b e)
       same = closing-same w n s b e at turn t₀ cur fresh counts

@@ -15,13 +15,13 @@ use Rattle.lists.proofs.BoolLaws.{by_bool}
 use Rattle.lists.proofs.RefusalLaws.{ensure_ok, and_ok}
 use Rattle.table.specs.Table.{finished_column, finished, live}
 use Rattle.table.specs.Line.{line, is_live}
-use Rattle.table.specs.Rules.{round_over, table_refusal}
+use Rattle.table.specs.Rules.{round_over, table_check}
 use Rattle.table.proofs.Accepting.{Accepted}
 use Rattle.table.proofs.CellLaws.{accepted-line}
 use Rattle.table.proofs.LineLaws.{line_at}
 use Rattle.table.specs.declared.wiring.Wiring.{Wiring}
 use Rattle.plant.specs.Turn.{kind_turn, kind_late, makes_test, turn_tested, next_test, outcome_at}
-use Rattle.plant.specs.Entry.{Entry, State, tally_top, is_crash, entry_check, entry_refusal, acted, tested_of, outcome_of, after}
+use Rattle.plant.specs.Entry.{Entry, State, tally_top, is_crash, entry_check, acted, tested_of, outcome_of, after}
 use Rattle.plant.proofs.RunLaws.{accepted-number, made-test}
 use Rattle.plant.proofs.RulesKept.{acted-lines, accepted-kept}
 use Rattle.plant.proofs.RoundLaws.{Reset}
@@ -74,7 +74,7 @@ module _ (w : Wiring) (n : ℕ) (s : State) (b : Lines) (e : Entry) (at : Beside
   abbrev x : Taken
   x = taken_at w n s e
 
-  z : table_refusal w n t ≡ 0
+  z : table_check w n t ≡ Ok tt
   z = accepted-number w n t at.ok
 
   facts : Going w n i (b i)
@@ -104,7 +104,7 @@ module _ (w : Wiring) (n : ℕ) (s : State) (b : Lines) (e : Entry) (at : Beside
       pick (inr k) = rw k
 
   -- the table takes the entry
-  pub takes : entry_refusal n s e ≡ 0
+  pub takes : entry_check n s e ≡ Ok tt
   unfolding entry_check
   takes =
       rw (

@@ -14,7 +14,7 @@ use Rattle.lists.proofs.BoolLaws.{by_bool}
 use Rattle.lists.proofs.SearchLaws.{both}
 use Rattle.table.specs.Table.{head, stride, cell, status_column, finished_column, live, finished, row}
 use Rattle.table.specs.Line.{line, row_of}
-use Rattle.table.specs.Rules.{table_refusal}
+use Rattle.table.specs.Rules.{table_check}
 use Rattle.table.proofs.Accepting.{Accepted, accepted}
 use Rattle.table.proofs.CellLaws.{line-holds, accepted-line, row_at}
 use Rattle.table.proofs.LineLaws.{line_at, line-length, line-row, row_of-length, row_of-at}
@@ -55,7 +55,8 @@ module _ (w : Wiring) (n i : ℕ) (l : List ℕ) (alive : live_check w n i l ≡
       rw (alive, e, eq-eqb (packed_length n) (packed_length n) refl)
 
 -- a live line of a table
-pub live-ok : (w : Wiring) (n : ℕ) (t : List ℕ) (i : ℕ) → table_refusal w n t ≡ 0 → i < n → live n t i ≡ true → live_check w n i (line n t i) ≡ Ok tt
+pub live-ok : (w : Wiring) (n : ℕ) (t : List ℕ) (i : ℕ) → table_check w n t ≡ Ok tt → i < n → live n t i ≡ true
+    → live_check w n i (line n t i) ≡ Ok tt
 unfolding live_check
 live-ok w n t i z h alive = rw (lines-of-tables w n t i z h, line_at n t i status_column (omega arith), alive)
 
@@ -73,7 +74,7 @@ unfoldable pub packed_reply : Wiring → ℕ → List ℕ → ℕ → ℕ → Op
 packed_reply w n t kind i =
     cond (replies n t kind (turn_tested w n t i)) (Some (pack n (row_of n (line n t (turn_tested w n t i))))) None
 
-module _ (w : Wiring) (n : ℕ) (t : List ℕ) (kind i : ℕ) (z : table_refusal w n t ≡ 0) (h : i < n) (alive : live n t i ≡ true)
+module _ (w : Wiring) (n : ℕ) (t : List ℕ) (kind i : ℕ) (z : table_check w n t ≡ Ok tt) (h : i < n) (alive : live n t i ≡ true)
     (going : finished n t i ≡ 1 → ⊥) where
   acc : Accepted w n t
   acc = accepted w n t z

@@ -17,7 +17,7 @@ use Rattle.lists.proofs.BoolLaws.{by_bool}
 use Rattle.table.specs.Table.{table_length, status_column, next_column, finished_column, tests_column, rounds_ago_column, status_crashed, status}
 use Rattle.table.specs.Table.{finished, live}
 use Rattle.table.specs.Line.{line, is_live}
-use Rattle.table.specs.Rules.{round_over, table_refusal}
+use Rattle.table.specs.Rules.{round_over, table_check}
 use Rattle.table.specs.Sizes.{is_size}
 use Rattle.table.proofs.Accepting.{Accepted, accepted}
 use Rattle.table.proofs.CellLaws.{Line, line-holds}
@@ -27,9 +27,9 @@ use Rattle.station.specs.Outcome.{outcome_exchanged, outcome_tested_told}
 use Rattle.station.specs.Step.{aged}
 use Rattle.plant.specs.Turn.{makes_test, replies, turn, turn_tested, turn_outcome, crash}
 use Rattle.plant.specs.Round.{reset_lines, after_round}
-use Rattle.plant.specs.Entry.{Entry, State, is_crash, entry_refusal, acted, after, tested_of, sheet_line}
+use Rattle.plant.specs.Entry.{Entry, State, is_crash, entry_check, acted, after, tested_of, sheet_line}
 use Rattle.plant.specs.Entry.{outcome_of as entry_outcome}
-use Rattle.plant.specs.Run.{RunResult, entries, write_line, go_on, start_refusal, run}
+use Rattle.plant.specs.Run.{RunResult, entries, write_line, go_on, start_check, run}
 use Rattle.plant.proofs.RoundLaws.{reset-other}
 use Rattle.plant.proofs.RunLaws.{accepted-number, start-facts}
 use Rattle.plant.proofs.RulesKept.{Takes, entry-facts, acted-lines, accepted-kept}
@@ -43,9 +43,10 @@ use Rattle.cable.proofs.LineFacts.{line-ok}
 use Rattle.cable.proofs.HoldLaws.{HoldsOne, held, holds, live-same, kept, over-same}
 use Rattle.cable.proofs.CallsOnCable.{row-ok, live-ok, packed_reply, asks, asks-nobody, leaves, answers, idle-leaves, idle-answers, answering}
 use Rattle.cable.proofs.CallsOnCable.{told-leaves, row-sent, exchanged-leaves, others-keep}
+use Rattle.lists.proofs.RefusalLaws.{by_check}
 
 -- a turn of a live board
-module _ (w : Wiring) (n : ℕ) (t : List ℕ) (b : Lines) (hold : Hold n t b) (z : table_refusal w n t ≡ 0) (kind i : ℕ) (h : i < n)
+module _ (w : Wiring) (n : ℕ) (t : List ℕ) (b : Lines) (hold : Hold n t b) (z : table_check w n t ≡ Ok tt) (kind i : ℕ) (h : i < n)
     (alive : live n t i ≡ true) (going : finished n t i ≡ 1 → ⊥) where
   acc : Accepted w n t
   acc = accepted w n t z
@@ -179,11 +180,11 @@ closing w n t b hold size long lines =
 
 -- an entry that is taken
 module _ (w : Wiring) (n : ℕ) (s : State) (b : Lines) (hold : Hold n s.table b) (e : Entry) (a : Accepted w n s.table)
-    (taken : entry_refusal n s e ≡ 0) where
+    (taken : entry_check n s e ≡ Ok tt) where
   takes : Takes n s e
   takes = entry-facts n s e taken
 
-  z : table_refusal w n s.table ≡ 0
+  z : table_check w n s.table ≡ Ok tt
   z = accepted-number w n s.table a
 
   pub acting : Hold n (acted w n s.table e) (after_act w n b e)
@@ -221,26 +222,24 @@ run-on : (w : Wiring) (n k : ℕ) (s : State) (sheet : List ℕ) (es : List Entr
 unfolding go_on after_entries sheet_after
 run-on w n k s sheet [] b a hold = let x : k - k ≡ 0 = omega arith in (omega arith, rw x hold, rw x)
 run-on w n k s sheet (e ∷ es) b a hold =
-    by_bool (eqb (entry_refusal n s e) 0)
-    (λ t.
-    let z = eqb-true (entry_refusal n s e) 0 t in
+    by_check (entry_check n s e)
+    (λ z.
     let rest = run-on w n (suc k) (after w n s e) (write_line sheet k (entry_line w n b e)) es (after_entry w n b e) (accepted-kept w n s e a z)
     (entry-held w n s b hold e a z) in
     let more : ℕ = (go_on w n (suc k) (after w n s e) (write_line sheet k (entry_line w n b e)) es).taken in
     let q : more - k ≡ suc (more - suc k) = omega (arith, rest.0) in
-    rw (t, entry-shown w n s b hold e a z) (omega (arith, rest.0), rw q rest.1, rw q rest.2))
-    (λ t. let x : k - k ≡ 0 = omega arith in rw t (omega arith, rw x hold, rw x))
+    rw (z, entry-shown w n s b hold e a z) (omega (arith, rest.0), rw q rest.1, rw q rest.2))
+    (λ r z. let x : k - k ≡ 0 = omega arith in rw z (omega arith, rw x hold, rw x))
 
 -- runs by the calls of all boards, an end in itself
 pub boards-do-the-run : BoardsDoTheRun
 unfolding run after_entries sheet_after
 boards-do-the-run w n s b schedule sheet hold =
-    by_bool (eqb (start_refusal w n s.table (length schedule) (length sheet)) 0)
-    (λ t.
+    by_check (start_check w n s.table (length schedule) (length sheet))
+    (λ z.
     let r : RunResult = go_on w n 0 s sheet (entries schedule) in
     let x : r.taken - 0 ≡ r.taken = omega arith in
-    let z = eqb-true (start_refusal w n s.table (length schedule) (length sheet)) 0 t in
     let a = (start-facts w n s.table (length schedule) (length sheet) z).0 in
     let p = rw x at (run-on w n 0 s sheet (entries schedule) b a hold) in
-    rw t (record { held = p.1; sheet_lines = p.2 }))
-    (λ t. rw t (record { held = hold; sheet_lines = refl }))
+    rw z (record { held = p.1; sheet_lines = p.2 }))
+    (λ r z. rw z (record { held = hold; sheet_lines = refl }))

@@ -8,7 +8,7 @@ use Rattle.lists.specs.declared.refusal.Refusal.{Refusal}
 use Rattle.lists.specs.Search.{every, list_of}
 use Rattle.table.specs.Table.{stride, table_length, status_column, finished_column, status_crashed, status, live}
 use Rattle.table.specs.Line.{line, is_live}
-use Rattle.table.specs.Rules.{table_refusal}
+use Rattle.table.specs.Rules.{table_check}
 use Rattle.table.specs.declared.wiring.Wiring.{Wiring}
 use Rattle.station.specs.Outcome.{no_station, outcome_exchanged, outcome_crash, outcome_tested_told}
 use Rattle.plant.specs.Turn.{kind_turn}
@@ -137,4 +137,4 @@ table_of n b = list_of (λ p. slice_index (b (p / stride n)) (p % stride n)) (ta
 abbrev pub BoardsMakeATable : Type 0
 BoardsMakeATable =
     (w : Wiring) (n : ℕ) (b : Lines) → 0 < n → ((k : ℕ) → k < n → line_check w n k (b k) ≡ Ok tt) → all_finished n b ≡ false
-    → (table_refusal w n (table_of n b) ≡ 0) × Hold n (table_of n b) b
+    → (table_check w n (table_of n b) ≡ Ok tt) × Hold n (table_of n b) b

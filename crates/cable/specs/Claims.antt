@@ -3,7 +3,7 @@
 use Rattle.std.specs.Prelude.{◌≡◌, ◌≢◌, ℕ, ◌<◌, List, length, Option, None, Some, Ok, if◌then◌else◌}
 use Rattle.table.specs.Table.{stride, table_length, row}
 use Rattle.table.specs.Line.{line, row_of, set_line}
-use Rattle.table.specs.Rules.{table_refusal}
+use Rattle.table.specs.Rules.{table_check}
 use Rattle.table.specs.Fresh.{fresh_table}
 use Rattle.table.specs.declared.wiring.Wiring.{Wiring}
 use Rattle.station.specs.Rows.{union}
@@ -35,7 +35,7 @@ pub record SameTurn (w : Wiring) (n : ℕ) (t : List ℕ) (kind i : ℕ) : Type 
 
 -- on every table that refusals 1 to 4 let through, for every station and every kind
 abbrev pub BoardsDoTheTurn : Type 0
-BoardsDoTheTurn = (w : Wiring) (n : ℕ) (t : List ℕ) (kind i : ℕ) → table_refusal w n t ≡ 0 → i < n → SameTurn w n t kind i
+BoardsDoTheTurn = (w : Wiring) (n : ℕ) (t : List ℕ) (kind i : ℕ) → table_check w n t ≡ Ok tt → i < n → SameTurn w n t kind i
 
 -- the same as one equation: the lines of the tester and of the station tested are written, each as its board makes it
 unfoldable pub turn_by_lines : Wiring → ℕ → List ℕ → ℕ → ℕ → List ℕ
@@ -48,7 +48,7 @@ turn_by_lines w n t kind i =
 
 abbrev pub TurnIsByLines : Type 0
 TurnIsByLines =
-    (w : Wiring) (n : ℕ) (t : List ℕ) (kind i : ℕ) → table_refusal w n t ≡ 0 → i < n → turn w n t kind i ≡ turn_by_lines w n t kind i
+    (w : Wiring) (n : ℕ) (t : List ℕ) (kind i : ℕ) → table_check w n t ≡ Ok tt → i < n → turn w n t kind i ≡ turn_by_lines w n t kind i
 
 -- Rule Board's closing: each line of the closed table is what its board makes of it
 abbrev pub BoardsCloseTheRound : Type 0
@@ -63,11 +63,11 @@ EitherRowServes =
 
 -- Rule Rows travel: the row of a station, packed and heard, is that row
 abbrev pub RowsTravel : Type 0
-RowsTravel = (w : Wiring) (n : ℕ) (t : List ℕ) (i : ℕ) → table_refusal w n t ≡ 0 → i < n → heard n i (pack n (row n t i)) ≡ row n t i
+RowsTravel = (w : Wiring) (n : ℕ) (t : List ℕ) (i : ℕ) → table_check w n t ≡ Ok tt → i < n → heard n i (pack n (row n t i)) ≡ row n t i
 
 -- Rule Lines of tables: the calls of its board let each line through
 abbrev pub LinesOfTables : Type 0
-LinesOfTables = (w : Wiring) (n : ℕ) (t : List ℕ) (i : ℕ) → table_refusal w n t ≡ 0 → i < n → line_check w n i (line n t i) ≡ Ok tt
+LinesOfTables = (w : Wiring) (n : ℕ) (t : List ℕ) (i : ℕ) → table_check w n t ≡ Ok tt → i < n → line_check w n i (line n t i) ≡ Ok tt
 
 -- Rule Fresh boards: the line that call Board, fresh leaves, where it is not refused, is that line of the fresh table
 abbrev pub FreshBoards : Type 0

@@ -1,24 +1,23 @@
 -- Grants, drives and mixed lists on alike tables.
 -- Assumes nothing.
 use mathlib.Core.Path.{◌≡◌, refl, sym, ap, ap₂, ◌∙◌}
-use mathlib.Core.Bool.{false, not, ◌||◌}
+use mathlib.Core.Bool.{not, ◌||◌}
 use mathlib.Core.List.{List, [], ◌∷◌}
 use Prim.Native.Nat.{ℕ, zero, suc, ◌-◌, ◌≤◌, ◌<◌}
 use native.Mathlib.Omega.{arith}
-use borrow.Author.Tests.{eqb-true}
 use lib.Dec.{eqb}
-use Rattle.lists.specs.Refusal.{number_of_result}
-use Rattle.lists.proofs.BoolLaws.{by_bool, least-same}
-use Rattle.lists.proofs.RefusalLaws.{and_same}
+use Rattle.lists.specs.Refusal.{number_of}
+use Rattle.lists.proofs.BoolLaws.{least-same}
+use Rattle.lists.proofs.RefusalLaws.{and_same, by_check}
 use Rattle.std.proofs.lemmas.List.Elements.{All-head, All-tail}
 use Rattle.table.specs.Rules.{table_check}
 use Rattle.table.proofs.Accepting.{Accepted, accepted, table_ok}
 use Rattle.table.specs.declared.wiring.Wiring.{Wiring}
 use Rattle.plant.specs.Turn.{kind_turn}
-use Rattle.plant.specs.Entry.{Entry, State, entry_of, tally_full, entry_refusal}
+use Rattle.plant.specs.Entry.{Entry, State, entry_of, tally_full, entry_check}
 use Rattle.plant.proofs.RulesKept.{accepted-kept}
 use Rattle.plant.proofs.RunLaws.{accepted-number}
-use Rattle.granter.specs.Grant.{waits, first_from, following, granted, grant_check, grant_refusal, grant_answer}
+use Rattle.granter.specs.Grant.{waits, first_from, following, granted, grant_check, grant_answer}
 use Rattle.granter.specs.Drive.{Stand, stand_at, granted_at, grant_turn, after_grants, ended, ended_after}
 use Rattle.granter.specs.Drive.{stops, grants_made, drive_outcome, outcome_after, drive, Stopped}
 use Rattle.granter.proofs.GrantLaws.{grantable, grant_ok, waits-is}
@@ -29,8 +28,9 @@ use Rattle.detection.proofs.DriveRuns.{driving-at}
 use Rattle.dead_lines.specs.Alike.{Alike, StayAlike, SameDrive, wiring_given, GrantOfAlike, DriveOfAlike, answer_of, answers_of, MixedOfAlike}
 use Rattle.dead_lines.proofs.Writes.{Twins, Step, still, then}
 use Rattle.dead_lines.proofs.TurnAlike.{some-live-same, finished-same}
-use Rattle.dead_lines.proofs.RunAlike.{Both, refusal-same, after-step, after-both, alike-both, size-is}
+use Rattle.dead_lines.proofs.RunAlike.{Both, check-same, after-step, after-both, alike-both, size-is}
 use Rattle.dead_lines.proofs.RunAlike.{tables-checked, stays, stay-still, stay-then, call-of-alike}
+use Rattle.std.specs.Prelude.{Ok}
 
 -- who is granted goes by who waits
 module _ (n : ℕ) (t u : List ℕ) (tw : Twins n t u) where
@@ -77,14 +77,14 @@ record Grants (w : Wiring) (n : ℕ) (p q : Stand) (k : ℕ) : Type 0 where
 
 -- a grant and its turn more
 next-grants : (w : Wiring) (n : ℕ) (p q : Stand) (k : ℕ) → Grants w n p q k
-    → entry_refusal n (after_grants w n p k).state (entry_of kind_turn (granted_at n (after_grants w n p k))) ≡ 0 → Grants w n p q (suc k)
+    → entry_check n (after_grants w n p k).state (entry_of kind_turn (granted_at n (after_grants w n p k))) ≡ Ok tt → Grants w n p q (suc k)
 unfolding after_grants grant_turn
 next-grants w n p q k x taken =
     record {
       both = rw (← same) (after-both n before other x.both e w taken);
       last = same;
       ok = accepted-kept w n before e x.ok taken;
-      other_ok = rw (← same) (accepted-kept w n other e x.other_ok (sym (refusal-same n before other x.both e) ∙ taken));
+      other_ok = rw (← same) (accepted-kept w n other e x.other_ok (sym (check-same n before other x.both e) ∙ taken));
       step = rw (← same) (then x.step (after-step n before other x.both e w taken));
     }
   where
@@ -101,7 +101,7 @@ next-grants w n p q k x taken =
     same = granted-same n before.table other.table x.both.tables (after_grants w n p k).last ∙ ap (granted n other.table) x.last
 
 -- a drive that is not refused
-module _ (w : Wiring) (n : ℕ) (s r : State) (a : Alike w n s r) (last : ℕ) (z : grant_refusal w n s.table last ≡ 0) where
+module _ (w : Wiring) (n : ℕ) (s r : State) (a : Alike w n s r) (last : ℕ) (z : grant_check w n s.table last ≡ Ok tt) where
   abbrev p : Stand
   p = stand_at s last
 
@@ -158,7 +158,7 @@ module _ (w : Wiring) (n : ℕ) (s r : State) (a : Alike w n s r) (last : ℕ) (
 
   drive-same : SameDrive w n s r (drive w n s last) (drive w n r last)
   drive-same =
-      let z' : grant_refusal w n r.table last ≡ 0 = sym (ap number_of_result (grant-checked w n s r a n last)) ∙ z in
+      let z' : grant_check w n r.table last ≡ Ok tt = sym (grant-checked w n s r a n last) ∙ z in
       rw (← drive-made w n s last made z stop, ← drive-made w n r last made z' other-stop) made-same
 
 refused : (w : Wiring) (n : ℕ) (s r : State) → Alike w n s r → (number last : ℕ)
@@ -169,16 +169,12 @@ refused w n s r a number last = record { answer = rw (a.rounds, a.tests); left =
 pub drive-of-alike : DriveOfAlike
 unfolding drive
 drive-of-alike w n s r a m last =
-    by_bool (eqb (grant_refusal w m s.table last) 0)
-    (λ t.
-    let z : grant_refusal w m s.table last ≡ 0 = eqb-true _ 0 t in
-    let z' : grant_refusal w m r.table last ≡ 0 = sym (ap number_of_result (grant-checked w n s r a m last)) ∙ z in
+    by_check (grant_check w m s.table last)
+    (λ z.
+    let z' : grant_check w m r.table last ≡ Ok tt = sym (grant-checked w n s r a m last) ∙ z in
     let same : m ≡ n = size-is w n s r a m (sym (grantable w m r.table last z').ok.long) in
     rw same (drive-same w n s r a last (rw same at z)))
-    (λ t. turned-away t)
-  where
-    turned-away : eqb (grant_refusal w m s.table last) 0 ≡ false → SameDrive w n s r (drive w m s last) (drive w m r last)
-    turned-away t = rw (← grant-checked w n s r a m last, t) (refused w n s r a (grant_refusal w m s.table last) last)
+    (λ x z. rw (← grant-checked w n s r a m last, z) (refused w n s r a (number_of x) last))
 
 -- one of a mixed list
 one-same : (w : Wiring) (n : ℕ) (s r : State) → Alike w n s r → (x : RunOrDrive) → wiring_given x ≡ w

@@ -1,25 +1,24 @@
 -- Entries, runs and lists of runs on alike tables: the same answers and sheets, and tables that stay alike.
 -- Assumes nothing.
-use mathlib.Core.Path.{◌≡◌, refl, sym, ap, ap₂, ◌∙◌}
+use mathlib.Core.Path.{◌≡◌, refl, sym, ap₂, ◌∙◌}
 use mathlib.Core.List.{List, [], ◌∷◌}
 use Prim.Native.Nat.{ℕ, suc, ◌<◌}
 use native.Mathlib.Decide.{dec_lt}
 use native.Mathlib.Omega.{arith}
-use borrow.Author.Tests.{eqb-true, le-ltb}
+use borrow.Author.Tests.{le-ltb}
 use mathlib.Core.Logic.{by_cases}
-use lib.Dec.{eqb}
 use lib.ListN.{length}
-use Rattle.lists.specs.Refusal.{number_of_result}
+use Rattle.lists.specs.Refusal.{number_of}
 use Rattle.lists.proofs.BoolLaws.{by_bool}
-use Rattle.lists.proofs.RefusalLaws.{and_same}
+use Rattle.lists.proofs.RefusalLaws.{and_same, by_check}
 use Rattle.std.proofs.lemmas.List.Elements.{All-head, All-tail}
 use Rattle.table.specs.Table.{table_length, finished_column, live}
-use Rattle.table.specs.Rules.{round_over, shape_check, table_check, table_refusal}
+use Rattle.table.specs.Rules.{round_over, shape_check, table_check}
 use Rattle.table.proofs.Accepting.{accepted, shape_ok}
 use Rattle.table.specs.declared.wiring.Wiring.{Wiring}
 use Rattle.plant.specs.Round.{after_round}
-use Rattle.plant.specs.Entry.{Entry, State, entry_check, entry_refusal, acted, after, sheet_line}
-use Rattle.plant.specs.Run.{RunResult, entries, write_line, go_on, start_check, start_refusal, run}
+use Rattle.plant.specs.Entry.{Entry, State, entry_check, acted, after, sheet_line}
+use Rattle.plant.specs.Run.{RunResult, entries, write_line, go_on, start_check, run}
 use Rattle.plant.proofs.RulesKept.{Takes, entry-facts, run-keeps-rules}
 use Rattle.plant.proofs.RunLaws.{start-facts}
 use Rattle.detection.specs.Runs.{Call, after_run, after_runs}
@@ -27,6 +26,7 @@ use Rattle.detection.proofs.Chain.{size-unique}
 use Rattle.dead_lines.specs.Alike.{Alike, StayAlike, SameRun, RunOfAlike, answers_of_runs, RunsOfAlike}
 use Rattle.dead_lines.proofs.Writes.{Twins, Step, still, then, twins-after, line-after, closing}
 use Rattle.dead_lines.proofs.TurnAlike.{live-same, over-same, acted-step, test-same, tested-same, outcome-of-same}
+use Rattle.std.specs.Prelude.{Ok}
 
 -- twin tables with one tally
 pub record Both (n : ℕ) (s r : State) : Type 0 where
@@ -36,7 +36,7 @@ pub record Both (n : ℕ) (s r : State) : Type 0 where
 
 -- an entry is refused in both or in neither
 module _ (n : ℕ) (s r : State) (b : Both n s r) (e : Entry) where
-  check-same : entry_check n s e ≡ entry_check n r e
+  pub check-same : entry_check n s e ≡ entry_check n r e
   unfolding entry_check
   check-same = by_cases (dec_lt e.station n) there (λ d. rw (b.rounds, b.tests, le-ltb e.station n (omega arith)))
     where
@@ -46,11 +46,8 @@ module _ (n : ℕ) (s r : State) (b : Both n s r) (e : Entry) where
           (λ l. rw (b.rounds, b.tests, b.tables.statuses e.station h, b.tables.live_lines e.station h l finished_column (omega arith)))
           (λ l. rw (b.rounds, b.tests, ← live-same n s.table r.table b.tables e.station h, l))
 
-  pub refusal-same : entry_refusal n s e ≡ entry_refusal n r e
-  refusal-same = ap number_of_result check-same
-
   -- one that is taken
-  module _ (w : Wiring) (z : entry_refusal n s e ≡ 0) where
+  module _ (w : Wiring) (z : entry_check n s e ≡ Ok tt) where
     takes : Takes n s e
     takes = entry-facts n s e z
 
@@ -108,12 +105,11 @@ run-on : (w : Wiring) (n k : ℕ) (s r : State) (sheet : List ℕ) (es : List En
 unfolding go_on
 run-on w n k s r sheet [] b = stopped n s r b 0 k sheet
 run-on w n k s r sheet (e ∷ es) b =
-    by_bool (eqb (entry_refusal n s e) 0)
-    (λ t.
-    let z = eqb-true (entry_refusal n s e) 0 t in
+    by_check (entry_check n s e)
+    (λ z.
     let rest = run-on w n (suc k) (after w n s e) (after w n r e) (write_line sheet k (sheet_line w n s e)) es (after-both n s r b e w z) in
-    rw (← refusal-same n s r b e, t, ← sheet-same n s r b e w z) (further (after-step n s r b e w z) rest))
-    (λ t. rw (← refusal-same n s r b e, t) (stopped n s r b (entry_refusal n s e) k sheet))
+    rw (← check-same n s r b e, z, ← sheet-same n s r b e w z) (further (after-step n s r b e w z) rest))
+    (λ x z. rw (← check-same n s r b e, z) (stopped n s r b (number_of x) k sheet))
 
 -- alike tables and tallies
 module _ (w : Wiring) (n : ℕ) (s r : State) (a : Alike w n s r) where
@@ -157,30 +153,28 @@ module _ (w : Wiring) (n : ℕ) (s r : State) (a : Alike w n s r) where
   run-same : (m : ℕ) (schedule sheet : List ℕ) → SameFrom n s r (run w m s schedule sheet) (run w m r schedule sheet)
   unfolding run
   run-same m schedule sheet =
-      by_bool (eqb (start_refusal w m s.table (length schedule) (length sheet)) 0)
+      by_check (start_check w m s.table (length schedule) (length sheet))
       (λ t.
-      let fits = (start-facts w m s.table (length schedule) (length sheet) (eqb-true _ 0 t)).0 in
+      let fits = (start-facts w m s.table (length schedule) (length sheet) t).0 in
       rw (← started m (length schedule) (length sheet), t, size-is m (sym fits.long ∙ same-length))
       (run-on w n 0 s r sheet (entries schedule) alike-both))
-      (λ t.
-      rw (← started m (length schedule) (length sheet), t)
-      (stopped n s r alike-both (start_refusal w m s.table (length schedule) (length sheet)) 0 sheet))
+      (λ x t. rw (← started m (length schedule) (length sheet), t) (stopped n s r alike-both (number_of x) 0 sheet))
 
 -- a run of any size keeps the rules of size n
-still-valid : (w : Wiring) (n : ℕ) (s : State) → table_refusal w n s.table ≡ 0 → (m : ℕ) (schedule sheet : List ℕ)
-    → table_refusal w n (run w m s schedule sheet).state.table ≡ 0
+still-valid : (w : Wiring) (n : ℕ) (s : State) → table_check w n s.table ≡ Ok tt → (m : ℕ) (schedule sheet : List ℕ)
+    → table_check w n (run w m s schedule sheet).state.table ≡ Ok tt
 unfolding run
 still-valid w n s z m schedule sheet =
-    by_bool (eqb (start_refusal w m s.table (length schedule) (length sheet)) 0)
+    by_check (start_check w m s.table (length schedule) (length sheet))
     (λ t.
-    let fits = (start-facts w m s.table (length schedule) (length sheet) (eqb-true _ 0 t)).0 in
+    let fits = (start-facts w m s.table (length schedule) (length sheet) t).0 in
     let same : m ≡ n = size-unique m n (sym fits.long ∙ (accepted w n s.table z).long) in
     rw same (run-keeps-rules w n s schedule sheet z))
-    (λ t. rw t z)
+    (λ r t. rw t z)
 
 -- what stays alike
-pub stays : (w : Wiring) (n : ℕ) (s r s' r' : State) → Both n s r → Step n s.table r.table s'.table r'.table → table_refusal w n s'.table ≡ 0
-    → table_refusal w n r'.table ≡ 0 → s'.rounds ≡ r'.rounds → s'.tests ≡ r'.tests → StayAlike w n s r s' r'
+pub stays : (w : Wiring) (n : ℕ) (s r s' r' : State) → Both n s r → Step n s.table r.table s'.table r'.table → table_check w n s'.table ≡ Ok tt
+    → table_check w n r'.table ≡ Ok tt → s'.rounds ≡ r'.rounds → s'.tests ≡ r'.tests → StayAlike w n s r s' r'
 stays w n s r s' r' b step z z' rounds tests =
     let tw = twins-after b.tables step in
     record {

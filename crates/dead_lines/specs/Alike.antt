@@ -1,9 +1,9 @@
 -- That the lines of stations that are not live matter to no run, grant or drive. s and r are two tables, each with its tally, to which the same is
 -- done; s' and r' are what is left of them.
 -- Assumes nothing.
-use Rattle.std.specs.Prelude.{ℕ, ◌<◌, ◌≡◌, true, List, [], ◌∷◌, All}
+use Rattle.std.specs.Prelude.{Ok, ℕ, ◌<◌, ◌≡◌, true, List, [], ◌∷◌, All}
 use Rattle.table.specs.Table.{stride, cell, status, live}
-use Rattle.table.specs.Rules.{table_refusal}
+use Rattle.table.specs.Rules.{table_check}
 use Rattle.table.specs.declared.wiring.Wiring.{Wiring}
 use Rattle.plant.specs.Entry.{State}
 use Rattle.plant.specs.Run.{RunResult, run}
@@ -18,8 +18,8 @@ SameLine n t u i = (c : ℕ) → c < stride n → cell n t i c ≡ cell n u i c
 
 -- Rule Dead lines, its conditions: refusals 1 to 4 let both tables through on the wiring w, and statuses, live lines and tally are equal
 pub record Alike (w : Wiring) (n : ℕ) (s r : State) : Type 0 where
-  pub valid : table_refusal w n s.table ≡ 0
-  pub other_valid : table_refusal w n r.table ≡ 0
+  pub valid : table_check w n s.table ≡ Ok tt
+  pub other_valid : table_check w n r.table ≡ Ok tt
   pub statuses : (i : ℕ) → i < n → status n s.table i ≡ status n r.table i
   pub live_lines : (i : ℕ) → i < n → live n s.table i ≡ true → SameLine n s.table r.table i
   pub rounds : s.rounds ≡ r.rounds

@@ -8,33 +8,32 @@ use Prim.Native.Nat.{ℕ, suc, ◌+◌, ◌≤◌, ◌<◌}
 use native.Mathlib.Nat.{mul-le-mul, suc-mul}
 use native.Mathlib.Omega.{arith}
 use lib.ListN.{length}
-use lib.Dec.{eqb}
-use borrow.Author.Tests.{eqb-true}
 use Rattle.table.specs.Table.{stride, table_length}
 use Rattle.table.proofs.Accepting.{Accepted}
 use Rattle.plant.proofs.RunLaws.{start-facts}
-use Rattle.plant.specs.Entry.{Entry, State, entry_refusal, after, sheet_line}
-use Rattle.plant.specs.Run.{entries, write_line, go_on, start_check, start_refusal, run}
+use Rattle.plant.specs.Entry.{Entry, State, entry_check, after, sheet_line}
+use Rattle.plant.specs.Run.{entries, write_line, go_on, start_check, run}
 use Rattle.plant.proofs.RulesKept.{accepted-kept}
 use Rattle.detection.specs.Runs.{Call, Taken, CountsTaken, after_run, after_runs, taken_from, taken_in, taken_all, is_on}
 use Rattle.detection.specs.Rounds.{all_taken}
-use Rattle.lists.proofs.BoolLaws.{by_bool}
 use Rattle.lists.proofs.SearchLaws.{both}
 use Rattle.table.specs.declared.wiring.Wiring.{Wiring}
 use Rattle.detection.proofs.TakenLaws.{taken_at}
 use Rattle.table.proofs.WiringLaws.{same-is}
 use Rattle.table.specs.Wiring.{same_wiring}
+use Rattle.std.specs.Prelude.{Ok}
+use Rattle.lists.proofs.RefusalLaws.{by_check}
 
 -- entries taken one behind the other at size n, each on the wiring of its run, from a state to a state
 pub data Chain (n : ℕ) : State → List Taken → State → Type 0 where
   done : {s : State} → Chain n s [] s
-  more : {s s' : State} {xs : List Taken} (w : Wiring) (e : Entry) → Accepted w n s.table → entry_refusal n s e ≡ 0 → Chain n (after w n s e) xs s'
+  more : {s s' : State} {xs : List Taken} (w : Wiring) (e : Entry) → Accepted w n s.table → entry_check n s e ≡ Ok tt → Chain n (after w n s e) xs s'
       → Chain n s (taken_at w n s e ∷ xs) s'
 
 -- all on one wiring
 pub data WiredChain (w : Wiring) (n : ℕ) : State → List Taken → State → Type 0 where
   ends : {s : State} → WiredChain w n s [] s
-  next : {s s' : State} {xs : List Taken} (e : Entry) → Accepted w n s.table → entry_refusal n s e ≡ 0 → WiredChain w n (after w n s e) xs s'
+  next : {s s' : State} {xs : List Taken} (e : Entry) → Accepted w n s.table → entry_check n s e ≡ Ok tt → WiredChain w n (after w n s e) xs s'
       → WiredChain w n s (taken_at w n s e ∷ xs) s'
 
 pub on-wiring : {w : Wiring} {n : ℕ} {s s' : State} {xs : List Taken} → Chain n s xs s' → all_taken (is_on w) xs ≡ true → WiredChain w n s xs s'
@@ -67,11 +66,10 @@ chain-entries : (w : Wiring) (n k : ℕ) (s : State) (sheet : List ℕ) (es : Li
 unfolding taken_from go_on
 chain-entries w n k s sheet [] a = done
 chain-entries w n k s sheet (e ∷ es) a =
-    by_bool (eqb (entry_refusal n s e) 0)
-    (λ t.
-    let z = eqb-true (entry_refusal n s e) 0 t in
-    rw t (more w e a z (chain-entries w n (suc k) (after w n s e) (write_line sheet k (sheet_line w n s e)) es (accepted-kept w n s e a z))))
-    (λ t. rw t done)
+    by_check (entry_check n s e)
+    (λ z.
+    rw z (more w e a z (chain-entries w n (suc k) (after w n s e) (write_line sheet k (sheet_line w n s e)) es (accepted-kept w n s e a z))))
+    (λ r z. rw z done)
 
 -- a table's length fits one size only
 not-less : (n m : ℕ) → table_length n ≡ table_length m → ¬ (n < m)
@@ -85,12 +83,12 @@ size-unique n m e = omega (arith, not-less n m e, not-less m n (sym e))
 chain_run : (n : ℕ) (s : State) (c : Call) → length s.table ≡ table_length n → Chain n s (taken_in s c) (after_run s c)
 unfolding taken_in run start_check
 chain_run n s c long =
-    by_bool (eqb (start_refusal c.wiring c.size s.table (length c.schedule) (length c.sheet)) 0)
+    by_check (start_check c.wiring c.size s.table (length c.schedule) (length c.sheet))
     (λ t.
-    let fits = (start-facts c.wiring c.size s.table (length c.schedule) (length c.sheet) (eqb-true _ 0 t)).0 in
+    let fits = (start-facts c.wiring c.size s.table (length c.schedule) (length c.sheet) t).0 in
     let same : c.size ≡ n = size-unique c.size n (sym fits.long ∙ long) in
     rw (after_run, t, same) (chain-entries c.wiring n 0 s c.sheet (entries c.schedule) (rw same at fits)))
-    (λ t. rw (after_run, t) done)
+    (λ r t. rw (after_run, t) done)
 
 -- the entries of all runs
 pub chain-all : (n : ℕ) (s : State) (calls : List Call) → length s.table ≡ table_length n
@@ -105,12 +103,12 @@ taken-from : (w : Wiring) (n k : ℕ) (s : State) (sheet : List ℕ) (es : List 
 unfolding taken_from go_on
 taken-from w n k s sheet [] = omega arith
 taken-from w n k s sheet (e ∷ es) =
-    by_bool (eqb (entry_refusal n s e) 0)
-    (λ t. rw t (omega (arith, taken-from w n (suc k) (after w n s e) (write_line sheet k (sheet_line w n s e)) es))) (λ t. rw t (omega arith))
+    by_check (entry_check n s e)
+    (λ t. rw t (omega (arith, taken-from w n (suc k) (after w n s e) (write_line sheet k (sheet_line w n s e)) es))) (λ r t. rw t (omega arith))
 
 -- a run answers how many entries it takes
 pub taken_is : (s : State) (c : Call) → CountsTaken c s (run c.wiring c.size s c.schedule c.sheet).taken
 unfolding taken_in run
 taken_is s c =
-    by_bool (eqb (start_refusal c.wiring c.size s.table (length c.schedule) (length c.sheet)) 0)
-    (λ t. rw t (omega (arith, taken-from c.wiring c.size 0 s c.sheet (entries c.schedule)))) (λ t. rw t)
+    by_check (start_check c.wiring c.size s.table (length c.schedule) (length c.sheet))
+    (λ t. rw t (omega (arith, taken-from c.wiring c.size 0 s c.sheet (entries c.schedule)))) (λ r t. rw t)

@@ -16,7 +16,7 @@ use Rattle.lists.proofs.SearchLaws.{both}
 use Rattle.table.proofs.Accepting.{Accepted}
 use Rattle.plant.specs.Turn.{kind_turn, kind_late, kind_crash, makes_test, next_test, turn_tested, outcome_at}
 use Rattle.plant.specs.Round.{reset_lines, after_round}
-use Rattle.plant.specs.Entry.{Entry, State, is_crash, entry_refusal, acted, after, tested_of}
+use Rattle.plant.specs.Entry.{Entry, State, is_crash, entry_check, acted, after, tested_of}
 use Rattle.plant.proofs.RulesKept.{Takes, entry-facts}
 use Rattle.plant.proofs.NextTest.{test-station}
 use Rattle.lists.specs.Sums.{bit}
@@ -32,6 +32,7 @@ use Rattle.detection.proofs.Counting.{turns-ok, closes-is}
 use Rattle.plant.proofs.TurnHeads.{turn-heads}
 use Rattle.detection.proofs.TurnEffect.{Plain, Grown, Company, turn-effect}
 use Rattle.detection.proofs.RoundKnowledge.{InRound, restart, TurnTaken, turn-in-round, Gave, RoundKnowledge}
+use Rattle.std.specs.Prelude.{Ok}
 
 -- the rounds r from the one that starts with t₀ on, to the table `end`; L is the live set, and Gives says what each closed round gave
 pub record Course (w : Wiring) (n : ℕ) (L : ℕ → Bool) (Gives : List ℕ → List Taken → List ℕ → Type 0) (t₀ : List ℕ) (r : Rounds)
@@ -114,7 +115,7 @@ cut-done w n L K t₀ cur s size inv = (
 
 -- a taken entry that is no crash and no late reply, in a table in which no live station suspects a live one: a turn of a live station
 module _ (w : Wiring) (n : ℕ) (L : ℕ → Bool) (company : Company n L) (s : State) (e : Entry) (ok : Accepted w n s.table)
-    (takes : entry_refusal n s e ≡ 0)
+    (takes : entry_check n s e ≡ Ok tt)
     (p : Plain w n L s.table) (no_crash : is_crash e ≡ false) (in_time : is_late (taken_at w n s e) ≡ false) where
   facts : Takes n s e
   facts = entry-facts n s e takes
@@ -146,7 +147,7 @@ module _ (w : Wiring) (n : ℕ) (L : ℕ → Bool) (company : Company n L) (s : 
 -- such an entry within a round
 module _ (w : Wiring) (n : ℕ) (L : ℕ → Bool) (K : RoundKnowledge w n L) (company : Company n L) (t₀ : List ℕ) (cur : List Taken) (s : State)
     (e : Entry)
-    (ok : Accepted w n s.table) (takes : entry_refusal n s e ≡ 0) (inv : InRound w n L t₀ cur s.table) (know : K.Knows t₀ cur s.table)
+    (ok : Accepted w n s.table) (takes : entry_check n s e ≡ Ok tt) (inv : InRound w n L t₀ cur s.table) (know : K.Knows t₀ cur s.table)
     (no_crash : is_crash e ≡ false) (in_time : is_late (taken_at w n s e) ≡ false) where
   abbrev t : List ℕ
   t = s.table

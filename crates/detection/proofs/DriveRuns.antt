@@ -1,29 +1,30 @@
 -- A drive is the list of runs of its grants, one entry each.
 -- Assumes nothing.
-use mathlib.Core.Path.{◌≡◌, refl}
+use mathlib.Core.Path.{◌≡◌, refl, sym, ◌∙◌}
 use mathlib.Core.Bool.{true, false, cond}
 use mathlib.Core.List.{[], ◌∷◌, ◌++◌}
 use Prim.Native.Nat.{ℕ, zero, suc, ◌<◌}
 use native.Mathlib.Omega.{arith}
-use borrow.Author.Tests.{eqb-true, eqb-false}
-use lib.Dec.{eqb}
 use lib.ListN.{length, length-append}
-use Rattle.table.specs.Rules.{table_refusal}
+use Rattle.table.specs.Rules.{table_check}
 use Rattle.lists.proofs.BoolLaws.{by_bool}
 use Rattle.table.specs.declared.wiring.Wiring.{Wiring}
 use Rattle.plant.specs.Turn.{kind_turn}
-use Rattle.plant.specs.Entry.{State, entry_of, entry_check, entry_refusal}
+use Rattle.plant.specs.Entry.{State, entry_of, entry_check}
 use Rattle.plant.proofs.RunLaws.{accepted-number}
 use Rattle.detection.specs.Runs.{turn_run, after_runs, taken_all}
 use Rattle.detection.proofs.OneTurn.{after-append, taken-append, one_left, one-taken}
 use Rattle.detection.proofs.TakenLaws.{taken_at}
-use Rattle.granter.specs.Grant.{last_refusal, grant_refusal}
+use Rattle.granter.specs.Grant.{last_check, grant_check}
 use Rattle.granter.specs.Drive.{Stand, stand_at, granted_at, grant_turn, after_grants, ended_after}
 use Rattle.granter.specs.Drive.{full_after, stops, grants_made, outcome_after, drive}
 use Rattle.granter.proofs.GrantLaws.{Grantable, grantable, grant-zero, station-fits}
 use Rattle.granter.proofs.DriveLaws.{Driving, not_stopped, driving-start, still, chosen, next-taken, next-driving}
 use Rattle.detection.specs.Driven.{runs_of, DriveIsTurns}
 use Rattle.granter.proofs.Stops.{drive-stops}
+use Rattle.std.specs.Prelude.{Ok, Err}
+use Rattle.lists.proofs.RefusalLaws.{by_check, refused_met}
+use Rattle.lists.specs.declared.refusal.Refusal.TheVariants.{TallyFull}
 
 -- as long as a drive does not stop
 pub driving-at : (w : Wiring) (n : ℕ) (s : State) (last : ℕ) → Grantable w n s.table last → (k : ℕ)
@@ -55,10 +56,10 @@ runs-left w n s last g (suc k) going = step (runs-left w n s last g k (λ j l. g
     d : Driving w n p k
     d = driving-at w n s last g k going
 
-    z : entry_refusal n q (entry_of kind_turn i) ≡ 0
+    z : entry_check n q (entry_of kind_turn i) ≡ Ok tt
     z = next-taken w n p k d (not_stopped w n p k (going k (omega arith))).1
 
-    ok : table_refusal w n q.table ≡ 0
+    ok : table_check w n q.table ≡ Ok tt
     ok = accepted-number w n q.table d.ok
 
     step : (after_runs s (runs_of w n p k) ≡ q) × (length (taken_all s (runs_of w n p k)) ≡ k)
@@ -72,7 +73,7 @@ runs-left w n s last g (suc k) going = step (runs-left w n s last g k (λ j l. g
 
 -- the last numbers of a drive are let through
 last_fits : (w : Wiring) (n : ℕ) (s : State) (last : ℕ) → Grantable w n s.table last → (k : ℕ)
-    → ((j : ℕ) → j < k → stops w n (stand_at s last) j ≡ false) → last_refusal n (after_grants w n (stand_at s last) k).last ≡ 0
+    → ((j : ℕ) → j < k → stops w n (stand_at s last) j ≡ false) → last_check n (after_grants w n (stand_at s last) k).last ≡ Ok tt
 unfolding after_grants grant_turn
 last_fits w n s last g zero going = g.last_fits
 last_fits w n s last g (suc k) going =
@@ -81,14 +82,14 @@ last_fits w n s last g (suc k) going =
 -- no grant of a drive is refused
 grants-taken : (w : Wiring) (n : ℕ) (s : State) (last : ℕ) → Grantable w n s.table last → (k : ℕ)
     → ((j : ℕ) → j < suc k → stops w n (stand_at s last) j ≡ false)
-    → grant_refusal w n (after_grants w n (stand_at s last) k).state.table (after_grants w n (stand_at s last) k).last ≡ 0
+    → grant_check w n (after_grants w n (stand_at s last) k).state.table (after_grants w n (stand_at s last) k).last ≡ Ok tt
 grants-taken w n s last g k going =
     let d = driving-at w n s last g k going in
     grant-zero w n _ _ (accepted-number w n _ d.ok) (last_fits w n s last g k (λ j l. going j (omega arith))) (still w n (stand_at s last) k d).1
 
 -- where a drive stops and has not ended, a tally is full
 full-number : (w : Wiring) (n : ℕ) (p : Stand) (k i : ℕ) → stops w n p k ≡ true → ◌≡◌ {A = ℕ} (cond (ended_after w n p k) 0 7) 7
-    → entry_refusal n (after_grants w n p k).state (entry_of kind_turn i) ≡ 7
+    → entry_check n (after_grants w n p k).state (entry_of kind_turn i) ≡ Err TallyFull
 unfolding stops entry_check
 full-number w n p k i stop seven =
     by_bool (ended_after w n p k) (λ e. absurd (omega (arith, rw e at seven)))
@@ -98,11 +99,10 @@ full-number w n p k i stop seven =
 pub drive-is-turns : DriveIsTurns
 unfolding drive outcome_after runs_of after_runs taken_all after_grants
 drive-is-turns w n s last =
-    by_bool (eqb (grant_refusal w n s.table last) 0)
+    by_check (grant_check w n s.table last)
     (λ e.
-    let z = eqb-true _ 0 e in
-    let g = grantable w n s.table last z in
-    let stop = drive-stops w n s last z in
+    let g = grantable w n s.table last e in
+    let stop = drive-stops w n s last e in
     let r = runs-left w n s last g made stop.first in
     record {
       granted = rw e (λ k h. grants-taken w n s last g k (λ j l. stop.first j (omega arith)));
@@ -111,12 +111,12 @@ drive-is-turns w n s last =
       last_is = rw e refl;
       seven = rw e (λ _ seven. full-number w n (stand_at s last) made _ stop.stopped seven);
     })
-    (λ e. record {
+    (λ r e. record {
       granted = rw e (λ k h. absurd (omega arith));
       taken = rw e refl;
       left = rw e refl;
       last_is = rw e refl;
-      seven = λ z. absurd (eqb-false _ 0 e z);
+      seven = λ z. absurd (refused_met r (sym e ∙ z));
     })
   where
     made : ℕ

@@ -26,7 +26,7 @@ use Rattle.detection.specs.Claim.{rounds_of, DetectionPremises, DetectionConclus
 use Rattle.detection.proofs.OneTurn.{after-append, runs_append, one_passes}
 use Rattle.detection.proofs.TakenLaws.{taken_at}
 use Rattle.detection.proofs.DetectionClaim.{detection-in-worst-case, detection-in-triangle, detection-in-square}
-use Rattle.granter.specs.Grant.{grant_refusal}
+use Rattle.granter.specs.Grant.{grant_check}
 use Rattle.granter.specs.Drive.{Stand, stand_at, granted_at, grant_turn, after_grants, ended, ended_after, stops, grants_made, outcome_after, drive}
 use Rattle.granter.proofs.GrantLaws.{Grantable, grantable}
 use Rattle.granter.proofs.DriveLaws.{Driving, not-ended, unended}
@@ -37,6 +37,7 @@ use Rattle.detection.specs.InList.{DrivenDetectionInList}
 use Rattle.granter.proofs.Stops.{drive-stops}
 use Rattle.detection.proofs.DriveRuns.{driving-at, drive-is-turns}
 use Rattle.table.proofs.WiringLaws.{same-itself}
+use Rattle.lists.proofs.RefusalLaws.{by_check, number_nonzero}
 
 -- the runs of a run or a drive leave what it leaves
 one-mixed-left : (s : State) (x : RunOrDrive) → after_runs s (runs_of_one s x) ≡ after_one s x
@@ -115,13 +116,12 @@ drive-closes : (w : Wiring) (n : ℕ) (s : State) (last : ℕ) → (drive w n s 
     → (drive w n s last).state.rounds ≡ s.rounds + 1
 unfolding drive outcome_after
 drive-closes w n s last z lives =
-    by_bool (eqb (grant_refusal w n s.table last) 0)
+    by_check (grant_check w n s.table last)
     (λ e.
-    let g = eqb-true _ 0 e in
-    let stop = drive-stops w n s last g in
+    let stop = drive-stops w n s last e in
     let over = ended_of (ended_after w n (stand_at s last) (grants_made w n (stand_at s last))) refl (rw e at z) in
-    rw e (closes_at w n s last (grantable w n s.table last g) (grants_made w n (stand_at s last)) stop.first over (rw e at lives)))
-    (λ e. absurd (eqb-false _ 0 e (rw e at z)))
+    rw e (closes_at w n s last (grantable w n s.table last e) (grants_made w n (stand_at s last)) stop.first over (rw e at lives)))
+    (λ r e. absurd (number_nonzero r (rw e at z)))
   where
     ended_of : (b : Bool) → ended_after w n (stand_at s last) (grants_made w n (stand_at s last)) ≡ b → ◌≡◌ {A = ℕ} (cond b 0 7) 0
         → ended_after w n (stand_at s last) (grants_made w n (stand_at s last)) ≡ true
@@ -132,11 +132,11 @@ drive-closes w n s last z lives =
 drive-stays : (w : Wiring) (n : ℕ) (s : State) (last : ℕ) → ((drive w n s last).number ≡ 0 → ⊥) → (drive w n s last).state.rounds ≡ s.rounds
 unfolding drive outcome_after
 drive-stays w n s last z =
-    by_bool (eqb (grant_refusal w n s.table last) 0)
+    by_check (grant_check w n s.table last)
     (λ e.
     by_bool (ended_after w n p made) (λ o. absurd (z (rw (e, o))))
     (λ o. rw e (not-ended n s.rounds (after_grants w n p made).state o).0))
-    (λ e. rw e)
+    (λ r e. rw e)
   where
     p : Stand
     p = stand_at s last

@@ -15,7 +15,7 @@ use Rattle.table.proofs.SizeLaws.{size-bounds}
 use Rattle.table.proofs.CellLaws.{accepted-line, live_exit}
 use Rattle.table.specs.declared.wiring.Wiring.{Wiring}
 use Rattle.plant.specs.Round.{rounds_after, after_round}
-use Rattle.plant.specs.Entry.{Entry, State, entry_refusal, acted, after}
+use Rattle.plant.specs.Entry.{Entry, State, entry_check, acted, after}
 use Rattle.plant.proofs.RoundLaws.{reset-ago, reset-other}
 use Rattle.plant.proofs.RulesKept.{acted-lines}
 use Rattle.detection.specs.Runs.{Taken}
@@ -26,9 +26,10 @@ use Rattle.detection.proofs.DrivenDetection.{mixed-left}
 use Rattle.detection.specs.Driven.{runs_of_mixed}
 use Rattle.detection.specs.Ceased.{LeftTold, closes_round, rounds_closed, since_ceased, FirstTold, ExitRecord, ExitsRecorded, MixedExitsRecorded}
 use Rattle.detection.proofs.Fates.{SameExit, Fate, stays, leaves, hears, after-fate, acted-ago}
+use Rattle.std.specs.Prelude.{Ok}
 
 -- one taken entry, and line k
-module _ (w : Wiring) (n : ℕ) (s : State) (e : Entry) (ok : Accepted w n s.table) (z : entry_refusal n s e ≡ 0) (k : ℕ) (h : k < n) where
+module _ (w : Wiring) (n : ℕ) (s : State) (e : Entry) (ok : Accepted w n s.table) (z : entry_check n s e ≡ Ok tt) (k : ℕ) (h : k < n) where
   abbrev t : List ℕ
   t = s.table
 

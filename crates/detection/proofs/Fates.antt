@@ -22,13 +22,14 @@ use Rattle.plant.specs.Turn.{set_status, leave_told, makes_test, replies, is_tol
 use Rattle.plant.specs.Turn.{after_outcome, after_test, is_alone, after_alone, testing, turn, turn_tested, turn_outcome, crash, finish_pass}
 use Rattle.station.specs.Outcome.{outcome_exchanged, outcome_told, outcome_tested_told}
 use Rattle.plant.specs.Round.{after_round}
-use Rattle.plant.specs.Entry.{Entry, State, is_crash, entry_refusal, acted, after, tested_of, outcome_of}
+use Rattle.plant.specs.Entry.{Entry, State, is_crash, entry_check, acted, after, tested_of, outcome_of}
 use Rattle.plant.proofs.StepCells.{leave_told-other, leave_told-status, leave_told-teller, finish_pass-other, suspect-other, exchange-other}
 use Rattle.plant.proofs.StepLines.{after_outcome-lines}
 use Rattle.plant.proofs.RoundLaws.{reset-other}
 use Rattle.plant.proofs.RulesKept.{Takes, entry-facts}
 use Rattle.detection.specs.Ceased.{LeftTold, TellerIsNamed}
 use Rattle.detection.proofs.TestingPair.{Counted, Pair, parts_of, count-others, testing-pair}
+use Rattle.std.specs.Prelude.{Ok}
 
 -- status and byte 4 of line k are the same in both tables
 abbrev pub SameExit : ℕ → List ℕ → List ℕ → ℕ → Type 0
@@ -196,7 +197,7 @@ outcome-counted n t u kind i j same hi hj =
     rw (same j status_column (omega arith) (omega arith), told, same i (head + j) (omega arith) (omega arith))
 
 -- a taken entry
-module _ (w : Wiring) (n : ℕ) (s : State) (e : Entry) (ok : Accepted w n s.table) (z : entry_refusal n s e ≡ 0) where
+module _ (w : Wiring) (n : ℕ) (s : State) (e : Entry) (ok : Accepted w n s.table) (z : entry_check n s e ≡ Ok tt) where
   open parts_of w n s e use {before as t, tester as i, distance as m, tested as j, outcome as o, counted as u}
 
   facts : Takes n s e

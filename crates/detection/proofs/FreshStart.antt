@@ -11,7 +11,7 @@ use lib.Dec.{eqb}
 use Rattle.table.specs.Sizes.{is_size}
 use Rattle.table.specs.Table.{head, stride, cell, status_column, next_column, finished_column}
 use Rattle.table.specs.Table.{tests_column, told_by_column, told_by_none, rounds_ago_column, suspects, live, status}
-use Rattle.table.specs.Rules.{exit_rule, line_rules, table_refusal}
+use Rattle.table.specs.Rules.{exit_rule, line_rules, table_check}
 use Rattle.table.specs.Fresh.{fresh_table}
 use Rattle.lists.proofs.SearchLaws.{every-all}
 use Rattle.lists.specs.Sums.{bit}
@@ -26,17 +26,18 @@ use Rattle.table.specs.declared.wiring.Wiring.{Wiring}
 use Rattle.detection.specs.Runs.{taken_all}
 use Rattle.detection.specs.Rounds.{all_taken}
 use Rattle.detection.specs.Claim.{FreshMeetsPremises}
+use Rattle.std.specs.Prelude.{Ok}
 
 -- a fresh line: next distance 1, byte 4 255, and all else 0
 fresh-at : (n i c : ℕ) → i < n → c < stride n → cell n (fresh_table n) i c ≡ cond (eqb c next_column) 1 (cond (eqb c told_by_column) told_by_none 0)
 fresh-at n i c h g = fresh-cell n i c h g ∙ fresh-byte n c g
 
-fresh-row : (n i k : ℕ) → i < n → k < n → suspects n (fresh_table n) i k ≡ 0
+pub fresh-row : (n i k : ℕ) → i < n → k < n → suspects n (fresh_table n) i k ≡ 0
 fresh-row n i k g l =
     fresh-at n i (head + k) g (omega arith)
     ∙ rw (ne_eqb (head + k) next_column (λ e. omega arith), ne_eqb (head + k) told_by_column (λ e. omega arith))
 
-fresh-live : (n i : ℕ) → i < n → live n (fresh_table n) i ≡ true
+pub fresh-live : (n i : ℕ) → i < n → live n (fresh_table n) i ≡ true
 fresh-live n i h = eq-eqb (status n (fresh_table n) i) 0 (fresh-at n i status_column h (omega arith))
 
 fresh-line : (w : Wiring) (n i : ℕ) → i < n → Line w n (fresh_table n) i
@@ -59,7 +60,7 @@ module _ (n : ℕ) where
   t = fresh_table n
 
   -- it passes refusals 1 to 4
-  pub fresh-accepted : (w : Wiring) → is_size n ≡ true → table_refusal w n t ≡ 0
+  pub fresh-accepted : (w : Wiring) → is_size n ≡ true → table_check w n t ≡ Ok tt
   fresh-accepted w size =
       accepted-number w n t (record {
         size = size;

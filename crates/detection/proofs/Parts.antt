@@ -5,17 +5,18 @@ use mathlib.Core.Bool.{Bool, true, false, true≢false}
 use mathlib.Core.List.{List, [], ◌∷◌, ◌++◌}
 use Prim.Native.Nat.{ℕ}
 use Rattle.table.proofs.Accepting.{Accepted}
-use Rattle.plant.specs.Entry.{State, entry_refusal, after}
+use Rattle.plant.specs.Entry.{State, entry_check, after}
 use Rattle.detection.specs.Runs.{Taken}
 use Rattle.detection.proofs.TakenLaws.{taken_at}
 use Rattle.detection.proofs.Chain.{Chain, done, more}
+use Rattle.std.specs.Prelude.{Ok}
 
 -- an entry of the list: those before it lead to what it finds, and it was taken
 pub record Parted (n : ℕ) (s : State) (before : List Taken) (x : Taken) (rest : List Taken) (s' : State) : Type 0 where
   pub first : Chain n s before x.before
   pub size : x.size ≡ n
   pub ok : Accepted x.wiring n x.before.table
-  pub taken : entry_refusal n x.before x.entry ≡ 0
+  pub taken : entry_check n x.before x.entry ≡ Ok tt
   pub last : Chain n (after x.wiring n x.before x.entry) rest s'
 
 abbrev head_or : Taken → List Taken → Taken

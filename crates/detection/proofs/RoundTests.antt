@@ -32,7 +32,7 @@ use Rattle.plant.specs.Turn.{kind_crash, crash, next_test, outcome_at}
 use Rattle.plant.proofs.StepLines.{Lines}
 use Rattle.plant.proofs.TurnHeads.{turn-heads}
 use Rattle.plant.specs.Round.{reset_lines, after_round}
-use Rattle.plant.specs.Entry.{Entry, State, is_crash, entry_refusal, acted, after}
+use Rattle.plant.specs.Entry.{Entry, State, is_crash, entry_check, acted, after}
 use Rattle.plant.proofs.RulesKept.{entry-facts, acted-lines}
 use Rattle.plant.proofs.RoundLaws.{Reset, reset-cells, reset-other, reset-lines}
 use Rattle.detection.specs.Runs.{Call, Taken, table_after, taken_all, after_runs, is_on}
@@ -46,6 +46,7 @@ use Rattle.slots.specs.Law.{Wider}
 use Rattle.slots.proofs.MoreTests.{tests-sum, mark-unsuspected, mark-suspected, wider-mark, most-covers}
 use Rattle.detection.specs.Timing.{tests_by, TestsByteCounts, table_left, end_of, TestsWithinDue, SuspectsAtMost, SlotSuffices}
 use Rattle.detection.proofs.TestsDue.{row-unsuspected, TestsAreDue, acted-fits}
+use Rattle.std.specs.Prelude.{Ok}
 
 -- byte 3 of each line is the number of its testing entries since t₀, the start of the round
 tests-counted : (n : ℕ) (t₀ : List ℕ) (cur : List Taken) (t : List ℕ) → ((i : ℕ) → i < n → Reset n t₀ i) → Counts n t₀ cur t
@@ -117,7 +118,7 @@ abbrev Cut : Wiring → ℕ → List ℕ → Rounds → Type 0
 Cut w n T r = (k : ℕ) → k ≤ length r.closed → RoundFits w n T (get_or (all_rounds r) k [])
 
 -- a taken entry
-module _ (w : Wiring) (n : ℕ) (s : State) (e : Entry) (ok : Accepted w n s.table) (takes : entry_refusal n s e ≡ 0) (t₀ : List ℕ) (cur : List Taken)
+module _ (w : Wiring) (n : ℕ) (s : State) (e : Entry) (ok : Accepted w n s.table) (takes : entry_check n s e ≡ Ok tt) (t₀ : List ℕ) (cur : List Taken)
     (fresh : (i : ℕ) → i < n → Reset n t₀ i) (counts : Counts n t₀ cur s.table) where
   abbrev t : List ℕ
   t = s.table
@@ -169,7 +170,7 @@ chain-counted n {s} {s'} (more {xs = xs} w e ok takes chain) t₀ cur fresh coun
     (λ t₁ now fresh counts. chain-counted n chain t₁ now fresh counts i h)
 
 -- a taken entry, on one wiring
-module _ (w : Wiring) (n : ℕ) (s : State) (e : Entry) (ok : Accepted w n s.table) (takes : entry_refusal n s e ≡ 0) (t₀ : List ℕ) (cur : List Taken)
+module _ (w : Wiring) (n : ℕ) (s : State) (e : Entry) (ok : Accepted w n s.table) (takes : entry_check n s e ≡ Ok tt) (t₀ : List ℕ) (cur : List Taken)
     (inv : Timed w n t₀ cur s.table) where
   abbrev u' : List ℕ
   u' = acted w n s.table e
@@ -222,7 +223,7 @@ cut-chain w n T {s} ends t₀ cur inv fits = λ k h. let e : k ≡ 0 = omega ari
 cut-chain w n T {s} {s'} (next {xs = xs} e ok takes chain) t₀ cur inv fits =
     cut-more w n s e ok takes t₀ cur inv T xs (λ t₁ now inv fits. cut-chain w n T chain t₁ now inv fits)
 
-start-reset : (n : ℕ) (t : List ℕ) → at_start n t ≡ true → (i : ℕ) → i < n → Reset n t i
+pub start-reset : (n : ℕ) (t : List ℕ) → at_start n t ≡ true → (i : ℕ) → i < n → Reset n t i
 unfolding at_start
 start-reset n t start i h =
     let all = both _ _ (every-at (line_at_start n t) n i start h) in

@@ -17,8 +17,9 @@ use Rattle.plant.specs.Turn.{next_test, makes_test, count_test, outcome_at}
 use Rattle.plant.proofs.NextTest.{next_test-low, test_below, test-station}
 use Rattle.plant.proofs.StepCells.{count_test-other}
 use Rattle.plant.proofs.StepLines.{Lines, count_test-lines}
-use Rattle.plant.specs.Entry.{Entry, State, is_crash, entry_refusal}
+use Rattle.plant.specs.Entry.{Entry, State, is_crash, entry_check}
 use Rattle.plant.proofs.RulesKept.{entry-facts}
+use Rattle.std.specs.Prelude.{Ok}
 
 -- the table before an entry, its station, the distance of that one's next test, the station there and the outcome, and the table with the test
 -- counted
@@ -55,7 +56,7 @@ pub record Pair (w : Wiring) (n : ℕ) (t u : List ℕ) (i j : ℕ) : Type 0 whe
 pub count-others : (w : Wiring) (n : ℕ) (s : State) (e : Entry) → Counted n (parts_of w n s e).before (parts_of w n s e).counted
 count-others w n s e k c h out = count_test-other n s.table e.station w (parts_of w n s e).distance (parts_of w n s e).outcome k c h (λ _. out)
 
-pub testing-pair : (w : Wiring) (n : ℕ) (s : State) (e : Entry) → Accepted w n s.table → entry_refusal n s e ≡ 0 → is_crash e ≡ false
+pub testing-pair : (w : Wiring) (n : ℕ) (s : State) (e : Entry) → Accepted w n s.table → entry_check n s e ≡ Ok tt → is_crash e ≡ false
     → makes_test w n s.table e.station ≡ true
     → Pair w n (parts_of w n s e).before (parts_of w n s e).counted (parts_of w n s e).tester (parts_of w n s e).tested
 testing-pair w n s e ok z no-crash makes =

@@ -21,13 +21,14 @@ use Rattle.table.specs.declared.wiring.Wiring.TheVariants.{Cube}
 use Rattle.station.proofs.DueLaws.{unsuspected-at}
 use Rattle.station.proofs.EntryLaws.{unsuspected-below}
 use Rattle.plant.specs.Turn.{makes_test, next_test, outcome_at, crash}
-use Rattle.plant.specs.Entry.{Entry, State, is_crash, entry_refusal, acted}
+use Rattle.plant.specs.Entry.{Entry, State, is_crash, entry_check, acted}
 use Rattle.plant.proofs.RulesKept.{entry-facts, acted-lines}
 use Rattle.plant.proofs.StepLines.{Lines}
 use Rattle.plant.proofs.TurnHeads.{Heads, turn-heads, passed-dues}
 use Rattle.slots.specs.Law.{Wider}
 use Rattle.slots.proofs.MoreTests.{fewer-below}
 use Rattle.detection.proofs.RowsGrow.{Grows, acted-grows}
+use Rattle.std.specs.Prelude.{Ok}
 
 -- whom the row of line k does not suspect
 pub row-unsuspected : (n : ℕ) (t : List ℕ) (k x : ℕ) → length t ≡ table_length n → k < n → x < n
@@ -56,7 +57,7 @@ abbrev pub TestsAreDue : ℕ → List ℕ → Type 0
 TestsAreDue n t = (i : ℕ) → i < n → tests_made n t i ≤ dues_of n t i (next_distance n t i)
 
 -- a taken entry keeps it
-module _ (n : ℕ) (s : State) (e : Entry) (ok : Accepted Cube n s.table) (takes : entry_refusal n s e ≡ 0) (fits : TestsAreDue n s.table) where
+module _ (n : ℕ) (s : State) (e : Entry) (ok : Accepted Cube n s.table) (takes : entry_check n s e ≡ Ok tt) (fits : TestsAreDue n s.table) where
   abbrev t : List ℕ
   t = s.table
 

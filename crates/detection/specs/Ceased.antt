@@ -1,12 +1,12 @@
 -- Who told a station to leave, and how long ago: bytes 4 and 5 after a taken entry, after a list of runs, and after one that mixes runs and
 -- drives.
 -- Assumes nothing.
-use Rattle.std.specs.Prelude.{◌≡◌, ◌≢◌, Bool, true, false, List, [], ◌∷◌, ℕ, ◌+◌, min, ◌≤◌, ◌<◌, length, if◌then◌else◌}
+use Rattle.std.specs.Prelude.{Ok, ◌≡◌, ◌≢◌, Bool, true, false, List, [], ◌∷◌, ℕ, ◌+◌, min, ◌≤◌, ◌<◌, length, if◌then◌else◌}
 use Rattle.table.specs.Table.{table_length, status, status_told, told_by, not_recorded, rounds_ago, rounds_ago_top, suspects, live}
-use Rattle.table.specs.Rules.{table_refusal, round_over}
+use Rattle.table.specs.Rules.{table_check, round_over}
 use Rattle.table.specs.declared.wiring.Wiring.{Wiring}
 use Rattle.station.specs.Outcome.{outcome_told, outcome_tested_told}
-use Rattle.plant.specs.Entry.{Entry, State, entry_refusal, acted, after, tested_of, outcome_of}
+use Rattle.plant.specs.Entry.{Entry, State, entry_check, acted, after, tested_of, outcome_of}
 use Rattle.detection.specs.Runs.{Call, Taken, after_runs, taken_all, table_after}
 use Rattle.detection.specs.Rounds.{count_taken}
 use Rattle.detection.specs.Driven.{RunOrDrive, after_mixed, runs_of_mixed}
@@ -34,7 +34,7 @@ pub record WhoTold (w : Wiring) (n : ℕ) (s : State) (e : Entry) : Type 0 where
 -- Rule Teller named: at every entry that a run reaches, refusals 1 to 4 let its table through (`accepted-kept` of plant's
 -- proofs/RulesKept.antt)
 abbrev pub TellerIsNamed : Type 0
-TellerIsNamed = (w : Wiring) (n : ℕ) (s : State) (e : Entry) → table_refusal w n s.table ≡ 0 → entry_refusal n s e ≡ 0 → WhoTold w n s e
+TellerIsNamed = (w : Wiring) (n : ℕ) (s : State) (e : Entry) → table_check w n s.table ≡ Ok tt → entry_check n s e ≡ Ok tt → WhoTold w n s e
 
 -- a round closes with the taken entry
 abbrev pub closes_round : Taken → Bool

@@ -1,6 +1,6 @@
 -- The detection claim, within any number of rounds, and the bounds for which it holds.
 -- Assumes nothing.
-use Rattle.std.specs.Prelude.{ℕ, suc, ◌+◌, ◌-◌, ◌*◌, ◌/◌, ◌≤◌, ◌<◌, ◌≡◌, Bool, true, not, ◌&&◌}
+use Rattle.std.specs.Prelude.{Ok, ℕ, suc, ◌+◌, ◌-◌, ◌*◌, ◌/◌, ◌≤◌, ◌<◌, ◌≡◌, Bool, true, not, ◌&&◌}
 use Rattle.std.specs.Prelude.{List, [], ◌∷◌, ◌++◌, length, if◌then◌else◌, nat_lt, slice_index_or}
 use Rattle.lists.specs.Search.{every}
 use Rattle.table.specs.Sizes.{is_size, dimension}
@@ -8,7 +8,7 @@ use Rattle.table.specs.Wiring.{is_ring}
 use Rattle.table.specs.Fresh.{fresh_table}
 use Rattle.station.specs.Groups.{is_present, width, member}
 use Rattle.table.specs.Table.{table_length, suspects, live}
-use Rattle.table.specs.Rules.{not_live, table_refusal}
+use Rattle.table.specs.Rules.{not_live, table_check}
 use Rattle.plant.specs.Entry.{State, state_of}
 use Rattle.lists.specs.Sums.{sum_below, bit}
 use Rattle.detection.specs.Runs.{Call, Taken, after_runs, taken_all, crashes, is_late, is_on}
@@ -157,7 +157,7 @@ worst_rounds w n = if is_ring w then ring_latency n else worst_latency (dimensio
 
 -- a fresh table of any size passes refusals 1 to 4, on each wiring
 abbrev pub FreshIsAccepted : Type 0
-FreshIsAccepted = (w : Wiring) (n : ℕ) → is_size n ≡ true → table_refusal w n (fresh_table n) ≡ 0
+FreshIsAccepted = (w : Wiring) (n : ℕ) → is_size n ≡ true → table_check w n (fresh_table n) ≡ Ok tt
 
 -- Rule Conditions are met: a fresh table, with any tally, meets on each wiring and at every size what is supposed of wiring, size and table.
 -- Drives need no more (`DrivenDetection`)

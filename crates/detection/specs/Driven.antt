@@ -1,14 +1,15 @@
 -- That a drive does what its grants and their runs of one entry do, so that detection holds of plants that are driven.
 -- Assumes nothing.
-use Rattle.std.specs.Prelude.{◌≡◌, List, [], ◌∷◌, ◌++◌, map, ℕ, zero, suc, ◌+◌, ◌≤◌, ◌<◌, length, ◌==◌}
+use Rattle.std.specs.Prelude.{Ok, ◌≡◌, List, [], ◌∷◌, ◌++◌, map, ℕ, zero, suc, ◌+◌, ◌≤◌, ◌<◌, length, ◌==◌, Err}
 use Rattle.lists.specs.Sums.{bit}
 use Rattle.table.specs.declared.wiring.Wiring.{Wiring}
 use Rattle.plant.specs.Turn.{kind_turn}
-use Rattle.plant.specs.Entry.{State, entry_of, entry_refusal}
+use Rattle.plant.specs.Entry.{State, entry_of, entry_check}
 use Rattle.detection.specs.Runs.{Call, turn_run, after_run, after_runs, taken_all}
 use Rattle.detection.specs.Claim.{rounds_of, AllKnow, DetectionPremises, DetectionConclusion, square_rounds}
-use Rattle.granter.specs.Grant.{grant_refusal}
+use Rattle.granter.specs.Grant.{grant_check}
 use Rattle.granter.specs.Drive.{Stand, stand_at, granted_at, after_grants, drive}
+use Rattle.lists.specs.declared.refusal.Refusal.TheVariants.{TallyFull}
 
 -- the runs (1, g1), (1, g2), .. of the first k grants
 unfoldable pub runs_of : Wiring → ℕ → Stand → ℕ → List Call
@@ -23,15 +24,16 @@ runs_of_drive w n s last = runs_of w n (stand_at s last) (drive w n s last).gran
 pub record TurnByTurn (w : Wiring) (n : ℕ) (s : State) (last : ℕ) : Type 0 where
   -- no grant is refused
   pub granted : (k : ℕ) → k < (drive w n s last).grants
-      → grant_refusal w n (after_grants w n (stand_at s last) k).state.table (after_grants w n (stand_at s last) k).last ≡ 0
+      → grant_check w n (after_grants w n (stand_at s last) k).state.table (after_grants w n (stand_at s last) k).last ≡ Ok tt
   -- each run takes its entry
   pub taken : length (taken_all s (runs_of_drive w n s last)) ≡ (drive w n s last).grants
   -- the same table and tally, and the same last granted number
   pub left : after_runs s (runs_of_drive w n s last) ≡ (drive w n s last).state
   pub last_is : (drive w n s last).last ≡ (after_grants w n (stand_at s last) (drive w n s last).grants).last
   -- where the drive stops with 7, the next turn would meet it
-  pub seven : grant_refusal w n s.table last ≡ 0 → (drive w n s last).number ≡ 7
-      → entry_refusal n (drive w n s last).state (entry_of kind_turn (granted_at n (stand_at (drive w n s last).state (drive w n s last).last))) ≡ 7
+  pub seven : grant_check w n s.table last ≡ Ok tt → (drive w n s last).number ≡ 7
+      → let end = drive w n s last in
+      entry_check n end.state (entry_of kind_turn (granted_at n (stand_at end.state end.last))) ≡ Err TallyFull
 
 -- Rule Drive is turns: for all inputs
 abbrev pub DriveIsTurns : Type 0

@@ -1,20 +1,20 @@
 -- What a test with a reply leads to, as one claim about a taken entry: by who suspects whom before it, which outcome it has and what it leaves,
 -- with rule Alone and the closing of a round.
 -- Assumes nothing.
-use Rattle.std.specs.Prelude.{◌≡◌, ◌≢◌, true, List, ℕ, max, ◌<◌, if◌then◌else◌}
+use Rattle.std.specs.Prelude.{Ok, ◌≡◌, ◌≢◌, true, List, ℕ, max, ◌<◌, if◌then◌else◌}
 use Rattle.lists.specs.Search.{every}
 use Rattle.table.specs.Table.{status, suspects, live, status_told, status_alone}
-use Rattle.table.specs.Rules.{table_refusal}
+use Rattle.table.specs.Rules.{table_check}
 use Rattle.table.specs.declared.wiring.Wiring.{Wiring}
 use Rattle.plant.specs.Turn.{replies, self_or_suspected}
 use Rattle.station.specs.Outcome.{outcome_exchanged, outcome_told, outcome_tested_told}
-use Rattle.plant.specs.Entry.{Entry, State, is_test, entry_refusal, after, tested_of, outcome_of}
+use Rattle.plant.specs.Entry.{Entry, State, is_test, entry_check, after, tested_of, outcome_of}
 
 -- a taken entry whose test has a reply. At every entry that a run reaches, refusals 1 to 4 let its table through (`accepted-kept` of
 -- plant's proofs/RulesKept.antt)
 pub record RepliedTest (w : Wiring) (n : ℕ) (s : State) (e : Entry) : Type 0 where
-  pub shape : table_refusal w n s.table ≡ 0
-  pub taken : entry_refusal n s e ≡ 0
+  pub shape : table_check w n s.table ≡ Ok tt
+  pub taken : entry_check n s e ≡ Ok tt
   pub makes : is_test w n s.table e ≡ true
   pub reply : replies n s.table e.kind (tested_of w n s.table e) ≡ true
 

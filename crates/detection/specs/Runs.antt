@@ -1,12 +1,13 @@
 -- The list of runs and its taken entries.
 -- Assumes nothing.
-use Rattle.std.specs.Prelude.{◌≡◌, ℕ, Bool, not, ◌&&◌, List, [], ◌∷◌, ◌++◌, length, if◌then◌else◌, ◌==◌}
+use Rattle.std.specs.Prelude.{◌≡◌, ℕ, Bool, not, ◌&&◌, List, [], ◌∷◌, ◌++◌, length, ◌==◌}
 use Rattle.table.specs.Table.{live}
 use Rattle.table.specs.Wiring.{same_wiring}
 use Rattle.table.specs.declared.wiring.Wiring.{Wiring}
 use Rattle.plant.specs.Turn.{kind_turn, kind_late}
-use Rattle.plant.specs.Entry.{Entry, State, is_crash, is_test, entry_refusal, after, tested_of}
-use Rattle.plant.specs.Run.{entries, start_refusal, run}
+use Rattle.plant.specs.Entry.{Entry, State, is_crash, is_test, entry_check, after, tested_of}
+use Rattle.plant.specs.Run.{entries, start_check, run}
+use Rattle.lists.specs.Refusal.{unless_refused}
 
 -- what one run of the list is given anew: its wiring, size, schedule and run sheet, which may be any
 pub record Call : Type 0 where
@@ -43,13 +44,12 @@ pub record Taken : Type 0 where
 unfoldable pub taken_from : Wiring → ℕ → State → List Entry → List Taken
 taken_from w n s [] = []
 taken_from w n s (e ∷ es) =
-    if entry_refusal n s e == 0 then (record { wiring = w; size = n; before = s; entry = e } ∷ taken_from w n (after w n s e) es) else []
+    unless_refused (entry_check n s e) [] (record { wiring = w; size = n; before = s; entry = e } ∷ taken_from w n (after w n s e) es)
 
 -- the taken entries of one run
 unfoldable pub taken_in : State → Call → List Taken
 taken_in s c =
-    if start_refusal c.wiring c.size s.table (length c.schedule) (length c.sheet) == 0
-    then taken_from c.wiring c.size s (entries c.schedule) else []
+    unless_refused (start_check c.wiring c.size s.table (length c.schedule) (length c.sheet)) [] (taken_from c.wiring c.size s (entries c.schedule))
 
 -- a run that finds this table and tally answers how many entries it takes
 abbrev pub CountsTaken : Call → State → ℕ → Type 0

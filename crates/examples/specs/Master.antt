@@ -6,10 +6,11 @@ use Rattle.table.specs.Fresh.{fresh_table}
 use Rattle.table.specs.declared.wiring.Wiring.TheVariants.{Cube}
 use Rattle.plant.specs.Turn.{finish_pass}
 use Rattle.plant.specs.Entry.{state_of}
-use Rattle.granter.specs.Grant.{waits, first_from, following, granted, grant_check, grant_refusal, grant_answer, grant_station}
+use Rattle.granter.specs.Grant.{waits, first_from, following, granted, grant_check, grant_answer, grant_station}
 use Rattle.granter.specs.Drive.{DriveResult, grant_turn, after_grants, ended, stops, grants_made, outcome_after, drive}
 use Rattle.examples.specs.Example.{Example, expect, AllHold}
 use Rattle.plant.proofs.WholeRun.{whole_run}
+use Rattle.lists.specs.Refusal.{number_of_result}
 
 -- who is granted in a table of four after each of the last numbers 255, 0, 1, 2, 3
 abbrev pub grants_of : List ℕ → List ℕ
@@ -47,8 +48,8 @@ examples =
     -- the last granted station comes last: alone live and unfinished, it is granted again
     ∷ expect (grants_of one_waits) (1 ∷ 1 ∷ 1 ∷ 1 ∷ 1 ∷ [])
     -- refusal 16 for a last number of n or more that is not 255, then 17 when no station is live
-    ∷ expect (map (grant_refusal Cube 4 (fresh_table 4)) (3 ∷ 4 ∷ 254 ∷ 255 ∷ 256 ∷ [])) (0 ∷ 16 ∷ 16 ∷ 0 ∷ 16 ∷ [])
-    ∷ expect (map (grant_refusal Cube 4 all_dead) (3 ∷ 4 ∷ 255 ∷ [])) (17 ∷ 16 ∷ 17 ∷ [])
+    ∷ expect (map (λ last. number_of_result (grant_check Cube 4 (fresh_table 4) last)) (3 ∷ 4 ∷ 254 ∷ 255 ∷ 256 ∷ [])) (0 ∷ 16 ∷ 16 ∷ 0 ∷ 16 ∷ [])
+    ∷ expect (map (λ last. number_of_result (grant_check Cube 4 all_dead last)) (3 ∷ 4 ∷ 255 ∷ [])) (17 ∷ 16 ∷ 17 ∷ [])
     ∷ expect (grant_station Cube 4 all_dead 3 ∷ grant_station Cube 4 (fresh_table 4) 4 ∷ []) (0 ∷ 0 ∷ [])
     ∷ []
 

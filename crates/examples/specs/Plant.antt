@@ -4,7 +4,7 @@ use Rattle.std.specs.Prelude.{ℕ, ◌+◌, List, [], ◌∷◌, map, drop, repl
 use Rattle.station.specs.Groups.{group, station_at}
 use Rattle.table.specs.Table.{head, line_start, set_cell, status_column, next_column, told_by_column, rounds_ago_column}
 use Rattle.table.specs.Table.{told_by, row}
-use Rattle.table.specs.Rules.{table_refusal}
+use Rattle.table.specs.Rules.{table_check}
 use Rattle.station.specs.Tests.{due_distances}
 use Rattle.table.specs.Fresh.{fresh_table}
 use Rattle.station.specs.Calls.{other_distances, assignment_entries}
@@ -16,6 +16,7 @@ use Rattle.table.specs.declared.wiring.Wiring.TheVariants.{Cube}
 use Rattle.detection.specs.Claim.{group_without_live, pairs_without_live, tests_per_round}
 use Rattle.examples.specs.Example.{Example, expect, AllHold}
 use Rattle.plant.proofs.WholeRun.{whole_run}
+use Rattle.lists.specs.Refusal.{number_of_result}
 
 -- a row of eight stations in which nothing, and in which station 4 is suspected
 abbrev pub nobody : List ℕ
@@ -78,7 +79,8 @@ after_closing ago =
 -- n = 3: the refusal of a table whose line 1 has this status, byte 5 and byte 4
 unfoldable pub refusal_of : ℕ → ℕ → ℕ → ℕ
 refusal_of status ago told =
-    table_refusal Cube 3 (set_cell 3 (set_cell 3 (set_cell 3 (fresh_table 3) 1 status_column status) 1 told_by_column told) 1 rounds_ago_column ago)
+    let line = set_cell 3 (set_cell 3 (fresh_table 3) 1 status_column status) 1 told_by_column told in
+    number_of_result (table_check Cube 3 (set_cell 3 line 1 rounds_ago_column ago))
 
 unfoldable pub base_rules : List Example
 base_rules =

@@ -8,24 +8,23 @@ use Prim.Native.Nat.{ℕ, suc, ◌+◌, ◌*◌, ◌≤◌, ◌<◌}
 use native.Mathlib.Decide.{dec_lt}
 use native.Mathlib.Numerals.{add-one}
 use native.Mathlib.Omega.{arith}
-use borrow.Author.Tests.{eqb-true, eqb-false, eq-eqb, ne_eqb, not-false}
+use borrow.Author.Tests.{eqb-true, eqb-false, eq-eqb, not-false}
 use lib.Dec.{eqb}
-use Rattle.table.specs.Rules.{some_live, round_over, table_refusal}
+use Rattle.table.specs.Rules.{some_live, round_over, table_check}
 use Rattle.lists.proofs.BoolLaws.{by_bool, neither}
 use Rattle.lists.proofs.SearchLaws.{least-is, least-none}
 use Rattle.table.proofs.Accepting.{Accepted}
 use Rattle.table.proofs.CellLaws.{accepted-line}
 use Rattle.plant.specs.Turn.{kind_turn, kind_crash}
 use Rattle.plant.specs.Round.{after_round}
-use Rattle.plant.specs.Entry.{Entry, State, entry_of, tally_full, entry_refusal, acted, after}
+use Rattle.plant.specs.Entry.{Entry, State, entry_of, tally_full, entry_check, acted, after}
 use Rattle.plant.proofs.RulesKept.{accepted-kept}
 use Rattle.plant.proofs.RunLaws.{accepted-number}
 use Rattle.plant.proofs.StepLines.{Lines}
-use Rattle.granter.specs.Grant.{waits, granted, grant_check, grant_refusal}
-use Rattle.std.specs.Prelude.{Err}
+use Rattle.granter.specs.Grant.{waits, granted, grant_check}
+use Rattle.std.specs.Prelude.{Ok, Err}
 use Rattle.lists.specs.declared.refusal.Refusal.{Refusal}
 use Rattle.lists.specs.Refusal.{number_of}
-use Rattle.lists.proofs.RefusalLaws.{number_nonzero}
 use Rattle.table.specs.declared.wiring.Wiring.{Wiring}
 use Rattle.granter.specs.Drive.{Stand, stand_at, granted_at, grant_turn, after_grants, ended, ended_after, full_after, stops, grants_made}
 use Rattle.granter.specs.Drive.{drive_outcome, outcome_after, drive, Stopped}
@@ -111,7 +110,7 @@ module _ (w : Wiring) (n : ℕ) (p : Stand) (k : ℕ) (d : Driving w n p k) wher
 
   -- where no tally is full
   module _ (fits : full_after w n p k ≡ false) where
-    pub next-taken : entry_refusal n s e ≡ 0
+    pub next-taken : entry_check n s e ≡ Ok tt
     next-taken = turn-taken n s i fits chosen.0 chosen.1
 
     pub next-before : (j : ℕ) → j < suc k → stops w n p j ≡ false
@@ -144,7 +143,7 @@ stopped-ended w n p k d fits o = record { within = next-within w n p k d; stoppe
 pub drive-refused : (w : Wiring) (n : ℕ) (s : State) (last : ℕ) (r : Refusal) → grant_check w n s.table last ≡ Err r
     → drive w n s last ≡ drive_outcome (number_of r) s last 0
 unfolding drive
-drive-refused w n s last r e = rw (e, ne_eqb (number_of r) 0 (number_nonzero r))
+drive-refused w n s last r e = rw e
 
 -- the grants made are the first after which it stops
 pub made-is : (w : Wiring) (n : ℕ) (p : Stand) (k : ℕ) → Stopped w n p k → grants_made w n p ≡ k
@@ -157,7 +156,7 @@ made-is w n p k s =
     least-none (stops w n p) (n * n) 0 (λ j a b. s.first j (omega arith)) ∙ omega arith)
 
 -- the whole drive
-pub drive-made : (w : Wiring) (n : ℕ) (s : State) (last k : ℕ) → grant_refusal w n s.table last ≡ 0 → Stopped w n (stand_at s last) k
+pub drive-made : (w : Wiring) (n : ℕ) (s : State) (last k : ℕ) → grant_check w n s.table last ≡ Ok tt → Stopped w n (stand_at s last) k
     → outcome_after w n (stand_at s last) k ≡ drive w n s last
 unfolding drive
 drive-made w n s last k z stop = rw (z, made-is w n (stand_at s last) k stop)
@@ -184,7 +183,7 @@ module _ (w : Wiring) (n : ℕ) (p : Stand) (k : ℕ) (q : Stand) (at-k : q ≡ 
   granted-below = rw at-k (chosen w n p k d).0
 
   module _ (fits : tally_full q.state.rounds q.state.tests ≡ false) where
-    pub turn-ready : (table_refusal w n q.state.table ≡ 0) × (entry_refusal n q.state (entry_of kind_turn (granted_at n q)) ≡ 0)
+    pub turn-ready : (table_check w n q.state.table ≡ Ok tt) × (entry_check n q.state (entry_of kind_turn (granted_at n q)) ≡ Ok tt)
     turn-ready = rw at-k (accepted-number w n _ d.ok, next-taken w n p k d (rw at-k at fits))
 
     -- the next grant

@@ -9,19 +9,20 @@ use Prim.Native.Nat.{ℕ, zero, suc, ◌+◌, ◌-◌, ◌≤◌, ◌<◌}
 use native.Mathlib.Decide.{dec_lt, ℕ_discrete}
 use native.Mathlib.Numerals.{add-one}
 use native.Mathlib.Omega.{arith}
-use borrow.Author.Tests.{ltb-true, ltb-false, lt-ltb, le-ltb, eqb-true, ne_eqb}
+use borrow.Author.Tests.{ltb-true, ltb-false, lt-ltb, le-ltb, ne_eqb}
 use lib.Dec.{ltb, eqb}
-use Rattle.table.specs.Rules.{not_live, some_live, table_refusal}
-use Rattle.lists.specs.Refusal.{unless}
+use Rattle.table.specs.Rules.{not_live, some_live, table_check}
+use Rattle.lists.specs.Refusal.{unless_refused}
+use Rattle.lists.proofs.RefusalLaws.{by_check}
 use Rattle.lists.proofs.BoolLaws.{by_bool}
 use Rattle.lists.proofs.SearchLaws.{every-not, least-between, least-before}
 use Rattle.table.proofs.SizeLaws.{size-bounds}
 use Rattle.table.proofs.Accepting.{Accepted, accepted}
-use Rattle.lists.proofs.RefusalLaws.{check_zero}
 use Rattle.table.specs.declared.wiring.Wiring.{Wiring}
-use Rattle.granter.specs.Grant.{no_grant, waits, first_from, following, granted, last_refusal, grant_refusal, grant_answer}
+use Rattle.granter.specs.Grant.{no_grant, waits, first_from, following, granted, last_check, grant_check, grant_answer}
 use Rattle.granter.proofs.GrantLaws.{waits-parts, grantable, grant-zero, station-fits, last-below, granted-waits}
 use Rattle.granter.specs.Fairness.{stations_before, NextGoingRound, last_before, Grants, BoundedWaiting}
+use Rattle.std.specs.Prelude.{Ok}
 
 -- nobody who waits stands before the first that does
 passed : (n : ℕ) (t : List ℕ) (i : ℕ) → waits n t i ≡ true → (c : ℕ) → c ≤ i → first_from n t c ≤ i
@@ -90,7 +91,7 @@ unfolding stations_before
 nearer-round n b g i hb hi hg = rw (lt-ltb i b hi, le-ltb i (suc g) (omega arith)) (omega arith)
 
 -- where a last number is let through, the going round begins at n at the most
-following-most : (n last : ℕ) → last_refusal n last ≡ 0 → following last ≤ n
+pub following-most : (n last : ℕ) → last_check n last ≡ Ok tt → following last ≤ n
 unfolding following
 following-most n last fits =
     by_bool (eqb last no_grant) (λ e. rw e (omega arith)) (λ e. rw e (omega (arith, last-below n last fits e)))
@@ -101,7 +102,7 @@ unfolding following
 following-granted n g top h = rw (ne_eqb g no_grant (omega arith), add-one g)
 
 -- one grant, from a table that refusals 1 to 4 let through and in which i waits
-module _ (w : Wiring) (n : ℕ) (t : List ℕ) (last i : ℕ) (z : table_refusal w n t ≡ 0) (fits : last_refusal n last ≡ 0) (h : i < n)
+module _ (w : Wiring) (n : ℕ) (t : List ℕ) (last i : ℕ) (z : table_check w n t ≡ Ok tt) (fits : last_check n last ≡ Ok tt) (h : i < n)
     (waiting : waits n t i ≡ true) where
   ok : Accepted w n t
   ok = accepted w n t z
@@ -110,7 +111,7 @@ module _ (w : Wiring) (n : ℕ) (t : List ℕ) (last i : ℕ) (z : table_refusal
   unfolding some_live
   someone = let l : not_live n t i ≡ false = rw (waits-parts n t i waiting).0 in rw (every-not (not_live n t) n i h l)
 
-  made : grant_refusal w n t last ≡ 0
+  made : grant_check w n t last ≡ Ok tt
   made = grant-zero w n t last z fits someone
 
   found : granted n t last < n
@@ -147,24 +148,24 @@ module _ (w : Wiring) (n : ℕ) (t : List ℕ) (last i : ℕ) (z : table_refusal
   nearer apart = rw (following-granted n (granted n t last) (size-bounds n ok.size).1 found) (closer apart)
 
 -- the last numbers between are let through
-module _ (w : Wiring) (n : ℕ) (tables : ℕ → List ℕ) (last : ℕ) (fits : last_refusal n last ≡ 0) where
-  last_fits : (k : ℕ) → last_refusal n (last_before w n tables last k) ≡ 0
+module _ (w : Wiring) (n : ℕ) (tables : ℕ → List ℕ) (last : ℕ) (fits : last_check n last ≡ Ok tt) where
+  last_fits : (k : ℕ) → last_check n (last_before w n tables last k) ≡ Ok tt
   unfolding last_before
   last_fits zero = fits
   last_fits (suc k) = step (last_before w n tables last k) (last_fits k)
     where
-      step : (before : ℕ) → last_refusal n before ≡ 0
-          → last_refusal n (unless (grant_refusal w n (tables k) before) before (granted n (tables k) before)) ≡ 0
+      step : (before : ℕ) → last_check n before ≡ Ok tt
+          → last_check n (unless_refused (grant_check w n (tables k) before) before (granted n (tables k) before)) ≡ Ok tt
       step before f =
-          by_bool (eqb (grant_refusal w n (tables k) before) 0)
+          by_check (grant_check w n (tables k) before)
           (λ e.
-          let g = grantable w n (tables k) before (eqb-true _ 0 e) in
+          let g = grantable w n (tables k) before e in
           rw e (station-fits n (granted n (tables k) before) (granted-waits n (tables k) g.ok.unclosed g.someone before).0))
-          (λ e. rw e f)
+          (λ r e. rw e f)
 
 -- the station waits in n tables one behind the other, from table a on
-module _ (w : Wiring) (n : ℕ) (tables : ℕ → List ℕ) (last a i : ℕ) (fits : last_refusal n last ≡ 0) (h : i < n)
-    (waiting : (k : ℕ) → a ≤ k → k < a + n → (table_refusal w n (tables k) ≡ 0) × (waits n (tables k) i ≡ true)) where
+module _ (w : Wiring) (n : ℕ) (tables : ℕ → List ℕ) (last a i : ℕ) (fits : last_check n last ≡ Ok tt) (h : i < n)
+    (waiting : (k : ℕ) → a ≤ k → k < a + n → (table_check w n (tables k) ≡ Ok tt) × (waits n (tables k) i ≡ true)) where
   abbrev from : ℕ → ℕ
   from k = last_before w n tables last k
 
@@ -185,16 +186,16 @@ module _ (w : Wiring) (n : ℕ) (tables : ℕ → List ℕ) (last a i : ℕ) (fi
       k : ℕ
       k = a + j
 
-      z : table_refusal w n (tables k) ≡ 0
+      z : table_check w n (tables k) ≡ Ok tt
       z = (waiting k (omega arith) (omega arith)).0
 
-      f : last_refusal n (from k) ≡ 0
+      f : last_check n (from k) ≡ Ok tt
       f = last_fits w n tables last fits k
 
       here : waits n (tables k) i ≡ true
       here = (waiting k (omega arith) (omega arith)).1
 
-      taken : grant_refusal w n (tables k) (from k) ≡ 0
+      taken : grant_check w n (tables k) (from k) ≡ Ok tt
       taken = made w n (tables k) (from k) i z f h here
 
       next : from (suc k) ≡ granted n (tables k) (from k)
@@ -204,7 +205,7 @@ module _ (w : Wiring) (n : ℕ) (tables : ℕ → List ℕ) (last a i : ℕ) (fi
       step (inl g) = inl (g.0, g.1, omega (arith, g.2), g.3)
       step (inr near) =
           by_cases (ℕ_discrete i (granted n (tables k) (from k)))
-          (λ e. inl (k, omega arith, omega arith, (taken, rw (check_zero _ taken) (sym e))))
+          (λ e. inl (k, omega arith, omega arith, (taken, rw (taken) (sym e))))
           (λ e.
           let s : a + suc j ≡ suc k = omega arith in
           inr (rw (s, next) (omega (arith, near, nearer w n (tables k) (from k) i z f h here e))))

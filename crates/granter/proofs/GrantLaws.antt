@@ -1,6 +1,6 @@
 -- Laws of the granting rule: who waits, and that the granted station does.
 -- Assumes nothing.
-use mathlib.Core.Path.{◌≡◌, refl, ap, ◌∙◌}
+use mathlib.Core.Path.{◌≡◌, refl, ◌∙◌}
 use mathlib.Core.Bool.{Bool, true, false, not, ◌&&◌, ◌||◌, and-true, true≢false}
 use mathlib.Core.List.{List}
 use Prim.Native.Nat.{ℕ, ◌-◌, ◌<◌}
@@ -10,16 +10,16 @@ use lib.Dec.{ltb, leb, eqb}
 use Rattle.lists.specs.Search.{least, every}
 use Rattle.lists.specs.Refusal.{Check, ◌and◌, number_of_result}
 use Rattle.table.specs.Table.{finished, live}
-use Rattle.table.specs.Rules.{some_live, finished_if_live, live_finished, round_over, table_refusal}
+use Rattle.table.specs.Rules.{some_live, finished_if_live, live_finished, round_over, table_check}
 use Rattle.lists.proofs.BoolLaws.{by_bool}
 use Rattle.lists.proofs.SearchLaws.{both, every-all, least-between, least-passes, least-before}
 use Rattle.table.proofs.Accepting.{Accepted, table_ok}
 use Rattle.std.specs.Prelude.{Ok, Err}
-use Rattle.lists.proofs.RefusalLaws.{check_zero, ensure_ok, and_ok}
+use Rattle.lists.proofs.RefusalLaws.{ensure_ok, and_ok}
 use Rattle.table.specs.declared.wiring.Wiring.{Wiring}
 use Rattle.plant.specs.Turn.{kind_turn}
-use Rattle.plant.specs.Entry.{State, entry_of, tally_full, entry_check, entry_refusal}
-use Rattle.granter.specs.Grant.{no_grant, waits, first_from, following, granted, last_refusal, grant_check, grant_refusal, grant_answer}
+use Rattle.plant.specs.Entry.{State, entry_of, tally_full, entry_check}
+use Rattle.granter.specs.Grant.{no_grant, waits, first_from, following, granted, last_check, grant_check, grant_answer}
 
 -- who waits is live and not finished
 pub waits-is : (n : ℕ) (t : List ℕ) (i : ℕ) → not (finished_if_live n t i) ≡ waits n t i
@@ -40,7 +40,7 @@ waits-parts n t i w =
 -- what a grant has that is not refused
 pub record Grantable (w : Wiring) (n : ℕ) (t : List ℕ) (last : ℕ) : Type 0 where
   pub ok : Accepted w n t
-  pub last_fits : last_refusal n last ≡ 0
+  pub last_fits : last_check n last ≡ Ok tt
   pub someone : some_live n t ≡ true
 
 pub grant_ok : (w : Wiring) (n : ℕ) (t : List ℕ) (last : ℕ) (x : Unit {0}) → grant_check w n t last ≡ Ok x → Grantable w n t last
@@ -48,13 +48,14 @@ unfolding grant_check
 grant_ok w n t last x e =
     let a = and_ok _ _ x e in
     let b = and_ok _ _ x a.1 in
-    record { ok = table_ok w n t _ a.0; last_fits = ap number_of_result b.0; someone = ensure_ok _ _ _ b.1 }
+    record { ok = table_ok w n t _ a.0; last_fits = b.0; someone = ensure_ok _ _ _ b.1 }
 
 -- its round is not over
 pub grantable_open : (w : Wiring) (n : ℕ) (t : List ℕ) (last : ℕ) → Grantable w n t last → round_over n t ≡ false
 grantable_open w n t last g = g.ok.unclosed
 
-pub grant_answer_refusal : (w : Wiring) (n : ℕ) (t : List ℕ) (last : ℕ) → number_of_result (grant_answer w n t last) ≡ grant_refusal w n t last
+pub grant_answer_refusal : (w : Wiring) (n : ℕ) (t : List ℕ) (last : ℕ)
+    → number_of_result (grant_answer w n t last) ≡ number_of_result (grant_check w n t last)
 unfolding grant_answer
 grant_answer_refusal w n t last = pick (grant_check w n t last)
   where
@@ -62,22 +63,22 @@ grant_answer_refusal w n t last = pick (grant_check w n t last)
     pick (Ok x) = refl
     pick (Err r) = refl
 
-pub grantable : (w : Wiring) (n : ℕ) (t : List ℕ) (last : ℕ) → grant_refusal w n t last ≡ 0 → Grantable w n t last
-grantable w n t last z = grant_ok w n t last _ (check_zero _ z)
+pub grantable : (w : Wiring) (n : ℕ) (t : List ℕ) (last : ℕ) → grant_check w n t last ≡ Ok tt → Grantable w n t last
+grantable w n t last z = grant_ok w n t last _ z
 
-pub grant-zero : (w : Wiring) (n : ℕ) (t : List ℕ) (last : ℕ) → table_refusal w n t ≡ 0 → last_refusal n last ≡ 0 → some_live n t ≡ true
-    → grant_refusal w n t last ≡ 0
+pub grant-zero : (w : Wiring) (n : ℕ) (t : List ℕ) (last : ℕ) → table_check w n t ≡ Ok tt → last_check n last ≡ Ok tt → some_live n t ≡ true
+    → grant_check w n t last ≡ Ok tt
 unfolding grant_check
-grant-zero w n t last z fits someone = rw (check_zero _ z, check_zero _ fits, someone)
+grant-zero w n t last z fits someone = rw (z, fits, someone)
 
 -- a station is a last number that is let through
-pub station-fits : (n g : ℕ) → g < n → last_refusal n g ≡ 0
+pub station-fits : (n g : ℕ) → g < n → last_check n g ≡ Ok tt
 station-fits n g h = rw (lt-leb n g h)
 
 -- a last number that is let through and is not 255 is a station
-pub last-below : (n last : ℕ) → last_refusal n last ≡ 0 → eqb last no_grant ≡ false → last < n
+pub last-below : (n last : ℕ) → last_check n last ≡ Ok tt → eqb last no_grant ≡ false → last < n
 last-below n last fits e =
-    let low : (leb n last && not (eqb last no_grant)) ≡ false = not-true _ (ensure_ok _ _ _ (check_zero _ fits)) in
+    let low : (leb n last && not (eqb last no_grant)) ≡ false = not-true _ (ensure_ok _ _ _ fits) in
     leb-false n last (simp and-true at (rw e at low))
 
 -- in a table whose round is not over, with a live station
@@ -117,6 +118,6 @@ module _ (n : ℕ) (t : List ℕ) (unclosed : round_over n t ≡ false) (someone
 
 -- a station that waits takes its turn, where no tally is full
 pub turn-taken : (n : ℕ) (s : State) (i : ℕ) → tally_full s.rounds s.tests ≡ false → i < n → waits n s.table i ≡ true
-    → entry_refusal n s (entry_of kind_turn i) ≡ 0
+    → entry_check n s (entry_of kind_turn i) ≡ Ok tt
 unfolding entry_check
 turn-taken n s i fits h w = let b = waits-parts n s.table i w in rw (fits, lt-ltb i n h, b.0, b.1)

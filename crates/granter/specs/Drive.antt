@@ -1,15 +1,15 @@
 -- The drive, which repeats a grant and its turn, for all inputs. w is the wiring.
 -- Assumes nothing.
-use Rattle.std.specs.Prelude.{◌≡◌, ℕ, zero, suc, ◌*◌, ◌≤◌, ◌<◌, Bool, true, false, not, ◌||◌, List, if◌then◌else◌, ◌==◌}
+use Rattle.std.specs.Prelude.{Ok, ◌≡◌, ℕ, zero, suc, ◌*◌, ◌≤◌, ◌<◌, Bool, true, false, not, ◌||◌, List, if◌then◌else◌, ◌==◌}
 use Rattle.lists.specs.Search.{least}
 use Rattle.table.specs.Rules.{some_live}
-use Rattle.lists.specs.Refusal.{unless}
+use Rattle.lists.specs.Refusal.{number_of_result, unless_refused}
 use Rattle.table.specs.declared.wiring.Wiring.{Wiring}
 use Rattle.plant.specs.Turn.{kind_turn}
 use Rattle.plant.specs.Entry.{State, state_with, entry_of, tally_full, after}
 use Rattle.plant.specs.Run.{stop_refusal}
 use Rattle.granter.specs.declared.Driven.{Driven}
-use Rattle.granter.specs.Grant.{granted, grant_refusal}
+use Rattle.granter.specs.Grant.{granted, grant_check}
 
 -- where a drive stands: table and tally, and the last granted number
 pub record Stand : Type 0 where
@@ -75,7 +75,8 @@ outcome_after w n p k = drive_outcome (if ended_after w n p k then 0 else 7) (af
 -- Rule Drive call: the drive, for all inputs. Refused by 1 to 4, 16 or 17 it gives back the tally and last number handed in, and 0 grants
 unfoldable pub drive : Wiring → ℕ → State → ℕ → DriveResult
 drive w n s last =
-    unless (grant_refusal w n s.table last) (drive_outcome (grant_refusal w n s.table last) s last 0)
+    let check = grant_check w n s.table last in
+    unless_refused check (drive_outcome (number_of_result check) s last 0)
     (outcome_after w n (stand_at s last) (grants_made w n (stand_at s last)))
 
 -- a drive that is not refused at its start makes n·n grants at the most, stopped for one of the three reasons, and none of them held
@@ -87,4 +88,4 @@ pub record Stopped (w : Wiring) (n : ℕ) (p : Stand) (grants : ℕ) : Type 0 wh
 
 -- of any drive: if it is not refused at its start, it stopped so
 abbrev pub StoppedIfTaken : Wiring → ℕ → State → ℕ → ℕ → Type 0
-StoppedIfTaken w n s last grants = grant_refusal w n s.table last ≡ 0 → Stopped w n (stand_at s last) grants
+StoppedIfTaken w n s last grants = grant_check w n s.table last ≡ Ok tt → Stopped w n (stand_at s last) grants

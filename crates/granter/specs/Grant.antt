@@ -8,7 +8,7 @@ use Rattle.table.specs.Rules.{some_live, table_check}
 use Rattle.table.specs.declared.Station.{Station}
 use Rattle.lists.specs.declared.refusal.Refusal.{Refusal}
 use Rattle.lists.specs.declared.refusal.Refusal.TheVariants.{LastGranted, NoneLive}
-use Rattle.lists.specs.Refusal.{Check, ensure, ◌and◌, number_of_result}
+use Rattle.lists.specs.Refusal.{Check, ensure, ◌and◌}
 use Rattle.table.specs.declared.wiring.Wiring.{Wiring}
 
 -- Rule Last number: 255, where none was granted yet
@@ -42,9 +42,6 @@ granted n t last =
 abbrev pub last_check : ℕ → ℕ → Check
 last_check n last = ensure (not (nat_le n last && not (last == no_grant))) LastGranted
 
-abbrev pub last_refusal : ℕ → ℕ → ℕ
-last_refusal n last = number_of_result (last_check n last)
-
 -- refusal 17: no station is live
 abbrev pub live_check : ℕ → List ℕ → Check
 live_check n t = ensure (some_live n t) NoneLive
@@ -52,9 +49,6 @@ live_check n t = ensure (some_live n t) NoneLive
 -- refusals of the grant, and of a drive at its start, on the wiring w: 1 to 4, 16, 17
 unfoldable pub grant_check : Wiring → ℕ → List ℕ → ℕ → Check
 grant_check w n t last = table_check w n t and last_check n last and live_check n t
-
-abbrev pub grant_refusal : Wiring → ℕ → List ℕ → ℕ → ℕ
-grant_refusal w n t last = number_of_result (grant_check w n t last)
 
 -- Rule Grant call: the station that the grant answers
 unfoldable pub grant_answer : Wiring → ℕ → List ℕ → ℕ → Result ℕ Refusal

@@ -1,9 +1,9 @@
 -- That n·n grants, each with its turn, are enough to close a round or to leave nobody live, on each wiring.
 -- Assumes nothing.
-use Rattle.std.specs.Prelude.{◌≡◌, ◌⊎◌, Bool, true, false, ℕ, zero, suc, ◌*◌, ◌≤◌, ◌<◌}
+use Rattle.std.specs.Prelude.{Ok, ◌≡◌, ◌⊎◌, Bool, true, false, ℕ, zero, suc, ◌*◌, ◌≤◌, ◌<◌}
 use Rattle.plant.specs.Turn.{kind_turn, kind_late}
-use Rattle.plant.specs.Entry.{State, entry_of, entry_refusal, after}
-use Rattle.granter.specs.Grant.{grant_refusal}
+use Rattle.plant.specs.Entry.{State, entry_of, entry_check, after}
+use Rattle.granter.specs.Grant.{grant_check}
 use Rattle.granter.specs.Drive.{Stand, stand_at, granted_at, after_grants, ended, grants_made, Stopped}
 use Rattle.table.specs.declared.wiring.Wiring.{Wiring}
 
@@ -26,14 +26,14 @@ over_after w n kinds p k = ended n p.state.rounds (after_turns w n kinds p k).st
 abbrev pub NoneRefused : Wiring → ℕ → (ℕ → ℕ) → Stand → Type 0
 NoneRefused w n kinds p =
     (k : ℕ) → k < n * n → ((j : ℕ) → j ≤ k → over_after w n kinds p j ≡ false)
-    → entry_refusal n (after_turns w n kinds p k).state (entry_of (kinds k) (granted_at n (after_turns w n kinds p k))) ≡ 0
+    → entry_check n (after_turns w n kinds p k).state (entry_of (kinds k) (granted_at n (after_turns w n kinds p k))) ≡ Ok tt
 
 -- Rule Enough grants: from every table that refusals 1 to 4 let through, in the middle of a round too, with somebody live and a last number
 -- that 16 lets through
 abbrev pub RoundEndsInSquare : Type 0
 RoundEndsInSquare =
     (w : Wiring) (n : ℕ) (kinds : ℕ → ℕ) (s : State) (last : ℕ)
-    → TurnKinds kinds → grant_refusal w n s.table last ≡ 0 → NoneRefused w n kinds (stand_at s last)
+    → TurnKinds kinds → grant_check w n s.table last ≡ Ok tt → NoneRefused w n kinds (stand_at s last)
     → (k : ℕ) × (k ≤ n * n) × (over_after w n kinds (stand_at s last) k ≡ true)
 
 -- with turns of kind 1 only, grants and turns are those of the drive
@@ -43,5 +43,5 @@ KindOneIsDriven = (w : Wiring) (n : ℕ) (p : Stand) (k : ℕ) → after_turns w
 -- Rule Enough grants: every drive that is not refused at its start stops, for one of the three reasons
 abbrev pub DriveStops : Type 0
 DriveStops =
-    (w : Wiring) (n : ℕ) (s : State) (last : ℕ) → grant_refusal w n s.table last ≡ 0
+    (w : Wiring) (n : ℕ) (s : State) (last : ℕ) → grant_check w n s.table last ≡ Ok tt
     → Stopped w n (stand_at s last) (grants_made w n (stand_at s last))

@@ -2,7 +2,7 @@
 ghost use Rattle.std.specs.Prelude.{◌≡◌, ◌<◌, IfSome};
 ghost use Rattle.table.specs.Lent.{IsSameLoan};
 ghost use Rattle.plant.specs.Entry.{state_with};
-ghost use Rattle.granter.specs.Grant.{last_number, grant_refusal};
+ghost use Rattle.granter.specs.Grant.{last_number, grant_check};
 ghost use Rattle.granter.specs.Drive.{stand_at, ended, drive_outcome_with, outcome_after, drive, Stopped, StoppedIfTaken};
 
 use crate::{Driven, grant};
@@ -37,7 +37,7 @@ pub fn drive(wiring: Wiring, n: usize, table: &mut [u8], tally: Tally, last: usi
 
 // A drive that is not refused at its start: grant and turn until it stops.
 fn drive_on(wiring: Wiring, table: &mut TableMut, tally: Tally, last: Option<Station>) -> Driven
-    requires taken { grant_refusal wiring table.old.n table.old.bytes.now (last_number last) ≡ 0 }
+    requires taken { grant_check wiring table.old.n table.old.bytes.now (last_number last) ≡ Ok tt }
     requires last_below { IfSome last (λ i. i.0 < table.old.n) }
     ensures same_loan { IsSameLoan table.old table.new }
     ensures outcome { let s = state_with table.old.bytes.now tally in

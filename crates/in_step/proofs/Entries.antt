@@ -6,12 +6,12 @@ use mathlib.Core.List.{List, [], ◌∷◌, ◌++◌}
 use Prim.Native.Nat.{ℕ, zero, suc, ◌≤◌}
 use native.Mathlib.Omega.{arith}
 use lib.ListN.{length, take}
-use Rattle.std.specs.Prelude.{Some, slice_get}
+use Rattle.std.specs.Prelude.{Ok, Some, slice_get}
 use Rattle.std.proofs.lemmas.Option.{same_Some, none-some}
 use Rattle.std.proofs.lemmas.List.{take-append-le}
 use Rattle.table.proofs.Accepting.{Accepted}
 use Rattle.table.specs.declared.wiring.Wiring.{Wiring}
-use Rattle.plant.specs.Entry.{Entry, State, entry_refusal, after}
+use Rattle.plant.specs.Entry.{Entry, State, entry_check, after}
 use Rattle.plant.proofs.RulesKept.{accepted-kept}
 use Rattle.in_step.specs.System.{after_all, table_at}
 
@@ -52,15 +52,15 @@ module _ (w : Wiring) (n : ℕ) where
   -- entries that a run takes
   abbrev pub Taken : State → List Entry → Type 0
   Taken s [] = Unit {0}
-  Taken s (e ∷ es) = (entry_refusal n s e ≡ 0) × Taken (after w n s e) es
+  Taken s (e ∷ es) = (entry_check n s e ≡ Ok tt) × Taken (after w n s e) es
 
-  pub taken-snoc : (s : State) (es : List Entry) (e : Entry) → Taken s es → entry_refusal n (after_all w n s es) e ≡ 0 → Taken s (es ++ (e ∷ []))
+  pub taken-snoc : (s : State) (es : List Entry) (e : Entry) → Taken s es → entry_check n (after_all w n s es) e ≡ Ok tt → Taken s (es ++ (e ∷ []))
   unfolding after_all
   taken-snoc s [] e t z = (z, tt)
   taken-snoc s (x ∷ es) e t z = (t.0, taken-snoc (after w n s x) es e t.1 z)
 
   pub taken-at : (s : State) (es : List Entry) → Taken s es → (m : ℕ) (e : Entry) → slice_get es m ≡ Some e
-      → entry_refusal n (after_all w n s (take m es)) e ≡ 0
+      → entry_check n (after_all w n s (take m es)) e ≡ Ok tt
   unfolding after_all
   taken-at s [] t m e g = absurd (none-some e g)
   taken-at s (x ∷ es) t zero e g = rw (sym (same_Some x e g)) t.0

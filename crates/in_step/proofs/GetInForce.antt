@@ -15,11 +15,11 @@ use Rattle.std.specs.Prelude.{Option, None, Some, Ok, slice_get}
 use Rattle.lists.proofs.BoolLaws.{by_bool}
 use Rattle.table.specs.Table.{finished, live, status_column, status_crashed}
 use Rattle.table.specs.Line.{line, row_of, is_live}
-use Rattle.table.specs.Rules.{table_refusal}
+use Rattle.table.specs.Rules.{table_check}
 use Rattle.table.proofs.Accepting.{Accepted, accepted}
 use Rattle.table.specs.declared.wiring.Wiring.{Wiring}
 use Rattle.plant.specs.Turn.{makes_test, turn_tested, turn_outcome}
-use Rattle.plant.specs.Entry.{Entry, State, entry_of, is_crash, is_test, entry_refusal, after, tested_of}
+use Rattle.plant.specs.Entry.{Entry, State, entry_of, is_crash, is_test, entry_check, after, tested_of}
 use Rattle.plant.specs.Entry.{outcome_of as entry_outcome}
 use Rattle.plant.proofs.RulesKept.{Takes, entry-facts}
 use Rattle.cable.proofs.TurnByLines.{tested-below}
@@ -159,7 +159,7 @@ module _ (w : Wiring) (n : ℕ) (s : State) (a : Accepted w n s.table) where
       (next.0 ∙ so.0, next.1)
 
   -- the master makes entry e
-  made-entry : (y : System) (e : Entry) → entry_refusal n (after_all w n s y.entries) e ≡ 0
+  made-entry : (y : System) (e : Entry) → entry_check n (after_all w n s y.entries) e ≡ Ok tt
       → entry_made w n s y e ≡ record y { entries = y.entries ++ (e ∷ []) }
   unfolding entry_made
   made-entry y e z = rw z refl
@@ -171,7 +171,7 @@ module _ (w : Wiring) (n : ℕ) (s : State) (a : Accepted w n s.table) where
 
   -- a turn of board i, with the reply that it heard, and its end: entry e comes of it
   module _ (y : System) (e : Entry) (levels : (k : ℕ) → k < n → ((y.boards k).in_force ≡ length y.entries) × ((y.boards k).aside ≡ None))
-      (ok : entry_refusal n (after_all w n s y.entries) e ≡ 0) (reply : Option (List ℕ)) (o : ℕ)
+      (ok : entry_check n (after_all w n s y.entries) e ≡ Ok tt) (reply : Option (List ℕ)) (o : ℕ)
       (says : tester_answer w n e.station (y.boards e.station).line reply ≡ Ok o) where
     abbrev i : ℕ
     i = e.station
@@ -220,7 +220,7 @@ module _ (w : Wiring) (n : ℕ) (s : State) (a : Accepted w n s.table) where
   Makes : System → Entry → Type 0
   Makes y e = (hs : List Happening) × MadeIn y e (after_happenings w n s y hs)
 
-  module _ (y : System) (v : Level y) (e : Entry) (ok : entry_refusal n (after_all w n s y.entries) e ≡ 0) where
+  module _ (y : System) (v : Level y) (e : Entry) (ok : entry_check n (after_all w n s y.entries) e ≡ Ok tt) where
     abbrev t : List ℕ
     t = (after_all w n s y.entries).table
 
@@ -269,7 +269,7 @@ module _ (w : Wiring) (n : ℕ) (s : State) (a : Accepted w n s.table) where
       abbrev j : ℕ
       j = turn_tested w n t own
 
-      z : table_refusal w n t ≡ 0
+      z : table_check w n t ≡ Ok tt
       z = accepted-number w n t accepted-now
 
       going : finished n t own ≡ 1 → ⊥
@@ -377,7 +377,7 @@ module _ (w : Wiring) (n : ℕ) (s : State) (a : Accepted w n s.table) where
       × Level (after_happenings w n s y hs)
 
   -- one, made and noted by all
-  entry-goes : (y : System) → Level y → (e : Entry) → entry_refusal n (after_all w n s y.entries) e ≡ 0
+  entry-goes : (y : System) → Level y → (e : Entry) → entry_check n (after_all w n s y.entries) e ≡ Ok tt
       → (e.kind ≡ 2
       → (is_test w n (after_all w n s y.entries).table e ≡ true)
       × (live n (after_all w n s y.entries).table (tested_of w n (after_all w n s y.entries).table e) ≡ true))

@@ -15,11 +15,11 @@ use Rattle.std.proofs.lemmas.Option.{same_Some, none-some, slice_get_within}
 use Rattle.lists.proofs.BoolLaws.{by_bool}
 use Rattle.lists.proofs.SearchLaws.{both}
 use Rattle.table.specs.Table.{live}
-use Rattle.table.specs.Rules.{table_refusal}
+use Rattle.table.specs.Rules.{table_check}
 use Rattle.table.specs.Line.{line, row_of, is_live}
 use Rattle.table.proofs.Accepting.{Accepted, accepted}
 use Rattle.plant.specs.Turn.{turn}
-use Rattle.plant.specs.Entry.{Entry, State, entry_of, is_crash, entry_refusal, acted, after}
+use Rattle.plant.specs.Entry.{Entry, State, entry_of, is_crash, entry_check, acted, after}
 use Rattle.board.specs.Packed.{pack}
 use Rattle.board.specs.Calls.{next_answer, closed_after}
 use Rattle.cable.specs.Boards.{row_from, named, tester_after, tester_answer}
@@ -34,6 +34,7 @@ use Rattle.in_step.specs.Claims.{InStep, BoardsInStep}
 use Rattle.in_step.proofs.TurnHeard.{row-written, RowOf, Heard, live-line, own-turn, own-outcome, line-after}
 use Rattle.in_step.proofs.Runs.{is-run, taken-take}
 use Rattle.in_step.proofs.Entries.{get-snoc, cons-all, table-kept, at-next, Taken, taken-snoc, taken-at, accepted-at}
+use Rattle.lists.proofs.RefusalLaws.{by_check}
 
 -- of a reply of turn e + 1: it is of a board that table t, after e entries, has live, and brings its row, packed
 pub record ReplyOn (n : ℕ) (t : List ℕ) (r : Reply) : Type 0 where
@@ -156,7 +157,7 @@ module _ (w : Wiring) (n : ℕ) (s : State) (a : Accepted w n s.table) where
   }
 
   -- one more entry; where it is a turn, its board keeps aside what comes of it
-  module _ (y : System) (h : Holds y) (e : Entry) (z : entry_refusal n (after_all w n s y.entries) e ≡ 0)
+  module _ (y : System) (h : Holds y) (e : Entry) (z : entry_check n (after_all w n s y.entries) e ≡ Ok tt)
       (mine : is_crash e ≡ false → OwnOn w n (T y.entries (length y.entries)) (y.boards e.station) (length y.entries) e) where
     more : List Entry
     more = y.entries ++ (e ∷ [])
@@ -201,14 +202,12 @@ module _ (w : Wiring) (n : ℕ) (s : State) (a : Accepted w n s.table) where
     }
 
   entry-kept : (y : System) → Holds y → (e : Entry)
-      → (entry_refusal n (after_all w n s y.entries) e ≡ 0 → is_crash e ≡ false
+      → (entry_check n (after_all w n s y.entries) e ≡ Ok tt → is_crash e ≡ false
       → OwnOn w n (T y.entries (length y.entries)) (y.boards e.station) (length y.entries) e)
       → Holds (entry_made w n s y e)
   unfolding entry_made
   entry-kept y h e mine =
-      by_bool (eqb (entry_refusal n (after_all w n s y.entries) e) 0)
-      (λ q. let z = eqb-true (entry_refusal n (after_all w n s y.entries) e) 0 q in rw q (grown y h e z (mine z)))
-      (λ q. rw q h)
+      by_check (entry_check n (after_all w n s y.entries) e) (λ z. rw z (grown y h e z (mine z))) (λ r z. rw z h)
 
   -- a test comes
   reply-kept : (y : System) → Holds y → (j turn : ℕ) → Holds (reply_sent w n y j turn)
@@ -348,7 +347,7 @@ module _ (w : Wiring) (n : ℕ) (s : State) (a : Accepted w n s.table) where
     abbrev was : State
     was = after_all w n s (take m y.entries)
 
-    taken-here : entry_refusal n was e ≡ 0
+    taken-here : entry_check n was e ≡ Ok tt
     taken-here = taken-at w n s y.entries h.taken m e g
 
     row-true : (o : Option End) → ((x : End) → o ≡ Some x → GoodEnd y.entries y.boards x) → (r : List ℕ) → row_heard here e.station o ≡ Some r
@@ -414,7 +413,7 @@ module _ (w : Wiring) (n : ℕ) (s : State) (a : Accepted w n s.table) where
   all-kept y h [] = h
   all-kept y h (x ∷ hs) = all-kept (after_happening w n s y x) (happening-kept y h x) hs
 
-  in-step : (z : table_refusal w n s.table ≡ 0) (y : System) → Holds y → InStep w n s y
+  in-step : (z : table_check w n s.table ≡ Ok tt) (y : System) → Holds y → InStep w n s y
   unfolding Fits GoodEnd
   in-step z y h = record {
     made = λ k hk. (h.boards k hk).0;
@@ -436,7 +435,7 @@ pub boards-in-step : BoardsInStep
 boards-in-step w n s hs z =
     let a = accepted w n s.table z in in-step w n s a z (after_happenings w n s (start n s) hs) (all-kept w n s a (start n s) (first w n s a) hs)
 
-pub all-taken : (w : Wiring) (n : ℕ) (s : State) (hs : List Happening) → table_refusal w n s.table ≡ 0
+pub all-taken : (w : Wiring) (n : ℕ) (s : State) (hs : List Happening) → table_check w n s.table ≡ Ok tt
     → Taken w n s (after_happenings w n s (start n s) hs).entries
 all-taken w n s hs z =
     let a = accepted w n s.table z in (all-kept w n s a (start n s) (first w n s a) hs).taken

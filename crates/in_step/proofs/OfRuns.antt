@@ -14,7 +14,7 @@ use Rattle.lists.proofs.SearchLaws.{both}
 use Rattle.table.specs.Table.{head, status, status_column, status_told, suspects, live}
 use Rattle.table.specs.Line.{line, is_live}
 use Rattle.table.specs.Properties.{none_suspected}
-use Rattle.table.specs.Rules.{table_refusal}
+use Rattle.table.specs.Rules.{table_check}
 use Rattle.table.proofs.Accepting.{accepted}
 use Rattle.table.proofs.LineLaws.{line_at}
 use Rattle.table.specs.declared.wiring.Wiring.{Wiring}
@@ -36,6 +36,7 @@ use Rattle.in_step.proofs.Entries.{Taken as AllTaken}
 use Rattle.in_step.proofs.TurnHeard.{live-line}
 use Rattle.in_step.proofs.Runs.{is-run, run-starts, entries-back, taken-take}
 use Rattle.in_step.proofs.Kept.{all-taken, boards-in-step}
+use Rattle.std.specs.Prelude.{Ok}
 
 module _ (w : Wiring) (n : ℕ) where
   -- the late reply among the taken entries
@@ -65,7 +66,7 @@ module _ (w : Wiring) (n : ℕ) where
       record { number = suc o.number; entry = o.entry; stands = o.stands; kind = o.kind; tested = o.tested; was_live = o.was_live })
 
   -- a run of entries that it takes, as a list of runs
-  module _ (s : State) (es : List Entry) (z : table_refusal w n s.table ≡ 0) (t : AllTaken w n s es) where
+  module _ (s : State) (es : List Entry) (z : table_check w n s.table ≡ Ok tt) (t : AllTaken w n s es) where
     abbrev calls : List Call
     calls = run_of w n es
 
@@ -103,7 +104,7 @@ module _ (w : Wiring) (n : ℕ) where
         (any-before (late_of i) why.before (why.x ∷ why.rest) (why.late none)))
 
 -- of the boards' own lines
-have-causes : (w : Wiring) (n : ℕ) (s : State) (y : System) → table_refusal w n s.table ≡ 0 → none_suspected n s.table ≡ true
+have-causes : (w : Wiring) (n : ℕ) (s : State) (y : System) → table_check w n s.table ≡ Ok tt → none_suspected n s.table ≡ true
     → AllTaken w n s y.entries
     → InStep w n s y → HaveCauses w n s y
 have-causes w n s y z none t h = record {

@@ -6,14 +6,14 @@ use Prim.Native.Nat.{ℕ, zero, suc, ◌+◌, ◌*◌, ◌%◌}
 use native.Mathlib.Omega.{arith}
 use borrow.Author.Tests.{eq-eqb}
 use lib.ListN.{length, take}
-use Rattle.table.specs.Rules.{table_refusal}
-use Rattle.lists.proofs.RefusalLaws.{check_zero}
+use Rattle.table.specs.Rules.{table_check}
 use Rattle.table.specs.declared.wiring.Wiring.{Wiring}
 use Rattle.plant.specs.Entry.{Entry, State, after, sheet_line}
-use Rattle.plant.specs.Run.{entries, write_line, go_on, start_check, start_refusal, run}
+use Rattle.plant.specs.Run.{entries, write_line, go_on, start_check, run}
 use Rattle.in_step.specs.System.{after_all}
 use Rattle.in_step.specs.Claims.{schedule_of, IsRun}
 use Rattle.in_step.proofs.Entries.{Taken}
+use Rattle.std.specs.Prelude.{Ok}
 
 pub entries-back : (es : List Entry) → entries (schedule_of es) ≡ es
 unfolding entries
@@ -24,9 +24,9 @@ schedule-length : (es : List Entry) → length (schedule_of es) ≡ 2 * length e
 schedule-length [] = refl
 schedule-length (e ∷ es) = omega (arith, schedule-length es)
 
-starts : (w : Wiring) (n : ℕ) (t : List ℕ) (a b : ℕ) → table_refusal w n t ≡ 0 → a % 2 ≡ 0 → b ≡ 2 * a → start_refusal w n t a b ≡ 0
+starts : (w : Wiring) (n : ℕ) (t : List ℕ) (a b : ℕ) → table_check w n t ≡ Ok tt → a % 2 ≡ 0 → b ≡ 2 * a → start_check w n t a b ≡ Ok tt
 unfolding start_check
-starts w n t a b z even twice = rw (check_zero _ z, even, eq-eqb b (2 * a) twice)
+starts w n t a b z even twice = rw (z, even, eq-eqb b (2 * a) twice)
 
 module _ (w : Wiring) (n : ℕ) where
   goes : (k : ℕ) (s : State) (sheet : List ℕ) (es : List Entry) → Taken w n s es
@@ -39,12 +39,12 @@ module _ (w : Wiring) (n : ℕ) where
       let rest = goes (suc k) (after w n s e) (write_line sheet k (sheet_line w n s e)) es t.1 in
       rw t.0 (rest.0, omega (arith, rest.1), rest.2)
 
-  pub run-starts : (s : State) (es : List Entry) (sheet : List ℕ) → table_refusal w n s.table ≡ 0 → length sheet ≡ 4 * length es
-      → start_refusal w n s.table (length (schedule_of es)) (length sheet) ≡ 0
+  pub run-starts : (s : State) (es : List Entry) (sheet : List ℕ) → table_check w n s.table ≡ Ok tt → length sheet ≡ 4 * length es
+      → start_check w n s.table (length (schedule_of es)) (length sheet) ≡ Ok tt
   run-starts s es sheet z long =
       starts w n s.table (length (schedule_of es)) (length sheet) z (omega (arith, schedule-length es)) (omega (arith, schedule-length es, long))
 
-  pub is-run : (s : State) (es : List Entry) (sheet : List ℕ) → table_refusal w n s.table ≡ 0 → Taken w n s es
+  pub is-run : (s : State) (es : List Entry) (sheet : List ℕ) → table_check w n s.table ≡ Ok tt → Taken w n s es
       → length sheet ≡ 4 * length es → IsRun w n s es sheet
   unfolding run
   is-run s es sheet z t long =

@@ -15,14 +15,14 @@ use Rattle.std.specs.Result.{result_unwrap_or}
 use Rattle.std.proofs.lemmas.Option.{same_Some, none-some}
 use Rattle.lists.proofs.BoolLaws.{by_bool, choice}
 use Rattle.table.specs.Table.{finished, live, row, status_column, status_crashed}
-use Rattle.table.specs.Rules.{round_over, table_refusal}
+use Rattle.table.specs.Rules.{round_over, table_check}
 use Rattle.table.specs.Line.{line, row_of, is_live}
 use Rattle.table.proofs.Accepting.{Accepted}
 use Rattle.table.proofs.LineLaws.{line_at, line-row, line-set, line-set-other}
 use Rattle.table.proofs.SizeLaws.{size_top}
 use Rattle.plant.specs.Turn.{makes_test, replies, turn, turn_tested, turn_outcome, crash}
 use Rattle.plant.specs.Round.{after_round}
-use Rattle.plant.specs.Entry.{Entry, State, entry_of, is_crash, entry_refusal, acted, after, tested_of}
+use Rattle.plant.specs.Entry.{Entry, State, entry_of, is_crash, entry_check, acted, after, tested_of}
 use Rattle.plant.specs.Entry.{outcome_of as entry_outcome}
 use Rattle.plant.proofs.RunLaws.{accepted-number}
 use Rattle.plant.proofs.RulesKept.{Takes, entry-facts, acted-lines}
@@ -98,7 +98,7 @@ module _ (w : Wiring) (n : ℕ) (t : List ℕ) (a : Accepted w n t) (i : ℕ) (h
   abbrev j : ℕ
   j = turn_tested w n t i
 
-  z : table_refusal w n t ≡ 0
+  z : table_check w n t ≡ Ok tt
   z = accepted-number w n t a
 
   -- no reply in time, and a reply
@@ -184,7 +184,7 @@ pub turn-entry : (c : Bool) (i : ℕ) → is_crash (entry_of (cond c 2 1) i) ≡
 turn-entry true i = refl
 turn-entry false i = refl
 
-module _ (w : Wiring) (n : ℕ) (s : State) (a : Accepted w n s.table) (x : End) (ok : entry_refusal n s (entry_by w n s.table x) ≡ 0)
+module _ (w : Wiring) (n : ℕ) (s : State) (a : Accepted w n s.table) (x : End) (ok : entry_check n s (entry_by w n s.table x) ≡ Ok tt)
     (reply : Option (List ℕ)) (heard : Heard w n s.table x.from reply)
     (says : tester_answer w n x.from (line n s.table x.from) reply ≡ Ok x.outcome) where
   facts : Takes n s (entry_by w n s.table x)
@@ -213,7 +213,7 @@ exchanged-before : (w : Wiring) (n : ℕ) (t : List ℕ) (a : Accepted w n t) (k
     → exchanged_after w n k (line n t k) i (pack n (row_of n (line n t i))) ≡ line n (turn w n t kind i) k
 unfolding received message
 exchanged-before w n t a kind i h alive going k hk e o =
-    let z : table_refusal w n t ≡ 0 = accepted-number w n t a in
+    let z : table_check w n t ≡ Ok tt = accepted-number w n t a in
     let same : SameTurn w n t kind i = same-turn w n t kind i z h in
     let lives : live n t k ≡ true = ap (live n t) e ∙ answering w n t kind i z h alive going (λ q. omega (arith, o, q)) (λ q. omega (arith, o, q)) in
     let makes : makes_test w n t i ≡ true =
@@ -226,7 +226,7 @@ exchanged-before w n t a kind i h alive going k hk e o =
     (sym (same.tested_line k hk e ∙ rw (sym same.outcome_number ∙ o) refl))
 
 -- an entry that is taken: what it makes of the line of each board that can put it in force
-module _ (w : Wiring) (n : ℕ) (s : State) (a : Accepted w n s.table) (e : Entry) (taken : entry_refusal n s e ≡ 0) where
+module _ (w : Wiring) (n : ℕ) (s : State) (a : Accepted w n s.table) (e : Entry) (taken : entry_check n s e ≡ Ok tt) where
   abbrev t : List ℕ
   t = s.table
 
@@ -284,7 +284,7 @@ module _ (w : Wiring) (n : ℕ) (s : State) (a : Accepted w n s.table) (e : Entr
       unfolding tested_line
       was_tested q l made =
           let o : ℕ = turn_outcome w n t e.kind i in
-          let z : table_refusal w n t ≡ 0 = accepted-number w n t a in
+          let z : table_check w n t ≡ Ok tt = accepted-number w n t a in
           by_bool (eqb o 5)
           (λ x.
           let made : Some (told_after w n k b.line i) ≡ Some l = rw (outcome_here, x) at made in

@@ -1,10 +1,10 @@
 -- Why a board's own line suspects a live board, and why a board left because it was told: an entry without a reply.
 -- Assumes nothing.
-use Rattle.std.specs.Prelude.{◌≡◌, ℕ, ◌<◌, true, List, take, Some, slice_get, slice_index}
+use Rattle.std.specs.Prelude.{Ok, ◌≡◌, ℕ, ◌<◌, true, List, take, Some, slice_get, slice_index}
 use Rattle.table.specs.Table.{status_column, status_told, live}
 use Rattle.table.specs.Line.{is_live}
 use Rattle.table.specs.Properties.{none_suspected}
-use Rattle.table.specs.Rules.{table_refusal}
+use Rattle.table.specs.Rules.{table_check}
 use Rattle.table.specs.declared.wiring.Wiring.{Wiring}
 use Rattle.plant.specs.Turn.{kind_late}
 use Rattle.plant.specs.Entry.{Entry, State, tested_of}
@@ -36,5 +36,5 @@ pub record HaveCauses (w : Wiring) (n : ℕ) (s : State) (y : System) : Type 0 w
 -- Rule Causes in step: so it is, whatever happens, from a table in which no live board suspects a live one
 abbrev pub CausesInStep : Type 0
 CausesInStep =
-    (w : Wiring) (n : ℕ) (s : State) (hs : List Happening) → table_refusal w n s.table ≡ 0 → none_suspected n s.table ≡ true
+    (w : Wiring) (n : ℕ) (s : State) (hs : List Happening) → table_check w n s.table ≡ Ok tt → none_suspected n s.table ≡ true
     → HaveCauses w n s (after_happenings w n s (start n s) hs)

@@ -1,10 +1,10 @@
 -- That boards which put the master's entries in force, each when it hears of it, hold the lines of the master's table.
 -- Assumes nothing.
-use Rattle.std.specs.Prelude.{◌≡◌, ℕ, suc, ◌*◌, ◌≤◌, ◌<◌, List, [], ◌∷◌, length, take, Some, slice_get}
+use Rattle.std.specs.Prelude.{Ok, ◌≡◌, ℕ, suc, ◌*◌, ◌≤◌, ◌<◌, List, [], ◌∷◌, length, take, Some, slice_get}
 use Rattle.table.specs.Line.{line}
-use Rattle.table.specs.Rules.{table_refusal}
+use Rattle.table.specs.Rules.{table_check}
 use Rattle.table.specs.declared.wiring.Wiring.{Wiring}
-use Rattle.plant.specs.Entry.{Entry, State, entry_refusal, outcome_of}
+use Rattle.plant.specs.Entry.{Entry, State, entry_check, outcome_of}
 use Rattle.plant.specs.Run.{run}
 use Rattle.in_step.specs.System.{End, System, start, after_all, table_at}
 use Rattle.in_step.specs.Happenings.{entry_by, Happening, after_happenings}
@@ -29,10 +29,10 @@ pub record InStep (w : Wiring) (n : ℕ) (s : State) (y : System) : Type 0 where
   -- an end that the master makes an entry of says the outcome that the entry has in its table
   pub outcomes : (x : ℕ) (d : End) → slice_get y.ends x ≡ Some d → d.turn ≡ suc (length y.entries)
       → (let now = after_all w n s y.entries in
-      entry_refusal n now (entry_by w n now.table d) ≡ 0 → outcome_of w n now.table (entry_by w n now.table d) ≡ d.outcome)
+      entry_check n now (entry_by w n now.table d) ≡ Ok tt → outcome_of w n now.table (entry_by w n now.table d) ≡ d.outcome)
 
 -- Rule Boards in step: so it is, whatever happens, from a table that refusals 1 to 4 let through
 abbrev pub BoardsInStep : Type 0
 BoardsInStep =
-    (w : Wiring) (n : ℕ) (s : State) (hs : List Happening) → table_refusal w n s.table ≡ 0
+    (w : Wiring) (n : ℕ) (s : State) (hs : List Happening) → table_check w n s.table ≡ Ok tt
     → InStep w n s (after_happenings w n s (start n s) hs)

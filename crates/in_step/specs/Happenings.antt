@@ -7,12 +7,13 @@ use Rattle.table.specs.Table.{live}
 use Rattle.table.specs.Line.{is_live}
 use Rattle.station.specs.Outcome.{outcome_no_reply}
 use Rattle.plant.specs.Turn.{kind_turn, kind_late, kind_crash, turn_tested}
-use Rattle.plant.specs.Entry.{Entry, State, entry_of, entry_refusal}
+use Rattle.plant.specs.Entry.{Entry, State, entry_of, entry_check}
 use Rattle.board.specs.Calls.{next_answer, closed_after}
 use Rattle.cable.specs.Boards.{row_from, named, tester_after, tester_answer}
 use Rattle.lists.specs.declared.refusal.Refusal.{Refusal}
 use Rattle.table.specs.declared.wiring.Wiring.{Wiring}
 use Rattle.in_step.specs.System.{Board, Reply, End, System, after_all, table_at, Note, note_of, line_by}
+use Rattle.lists.specs.Refusal.{unless_refused}
 
 -- the system with board k become b
 abbrev pub with_board : System → ℕ → Board → System
@@ -51,7 +52,7 @@ reply_heard w n y i (Some r) =
 -- Rule Entered: the master makes an entry, if a run would take it
 unfoldable pub entry_made : Wiring → ℕ → State → System → Entry → System
 entry_made w n s y e =
-    if entry_refusal n (after_all w n s y.entries) e == 0 then record y { entries = y.entries ++ (e ∷ []) } else y
+    unless_refused (entry_check n (after_all w n s y.entries) e) y (record y { entries = y.entries ++ (e ∷ []) })
 
 -- Rules Entered and Kinds: it makes a turn one whose reply came late, if the tester got none though the board tested is live in the master's table t
 abbrev pub entry_by : Wiring → ℕ → List ℕ → End → Entry

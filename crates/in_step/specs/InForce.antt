@@ -1,11 +1,11 @@
 -- That nothing stands in the way: for any entries that a master may make there are happenings after which all are in force at all boards.
 -- Assumes nothing.
-use Rattle.std.specs.Prelude.{◌≡◌, ℕ, ◌<◌, true, List, [], ◌∷◌, length, ⊤}
+use Rattle.std.specs.Prelude.{Ok, ◌≡◌, ℕ, ◌<◌, true, List, [], ◌∷◌, length, ⊤}
 use Rattle.table.specs.Table.{live}
-use Rattle.table.specs.Rules.{table_refusal}
+use Rattle.table.specs.Rules.{table_check}
 use Rattle.table.specs.declared.wiring.Wiring.{Wiring}
 use Rattle.plant.specs.Turn.{kind_late}
-use Rattle.plant.specs.Entry.{Entry, State, is_test, entry_refusal, after, tested_of}
+use Rattle.plant.specs.Entry.{Entry, State, is_test, entry_check, after, tested_of}
 use Rattle.in_step.specs.System.{System, start}
 use Rattle.in_step.specs.Happenings.{Happening, after_happenings}
 
@@ -13,7 +13,7 @@ use Rattle.in_step.specs.Happenings.{Happening, after_happenings}
 abbrev pub AsMade : Wiring → ℕ → State → List Entry → Type 0
 AsMade w n s [] = ⊤
 AsMade w n s (e ∷ es) =
-    (entry_refusal n s e ≡ 0)
+    (entry_check n s e ≡ Ok tt)
     × (e.kind ≡ kind_late → (is_test w n s.table e ≡ true) × (live n s.table (tested_of w n s.table e) ≡ true))
     × AsMade w n (after w n s e) es
 
@@ -25,5 +25,5 @@ pub record AllInForce (n : ℕ) (es : List Entry) (y : System) : Type 0 where
 -- Rule Entries get in force: so it is after some list of happenings, for each list of such entries
 abbrev pub EntriesGetInForce : Type 0
 EntriesGetInForce =
-    (w : Wiring) (n : ℕ) (s : State) (es : List Entry) → table_refusal w n s.table ≡ 0 → AsMade w n s es
+    (w : Wiring) (n : ℕ) (s : State) (es : List Entry) → table_check w n s.table ≡ Ok tt → AsMade w n s es
     → (hs : List Happening) × AllInForce n es (after_happenings w n s (start n s) hs)

@@ -1,10 +1,10 @@
 -- How many rounds it takes until a board's own line shows who is not live.
 -- Assumes nothing.
-use Rattle.std.specs.Prelude.{◌≡◌, ℕ, ◌*◌, ◌≤◌, ◌<◌, true, List, [], ◌∷◌, length, replicate}
+use Rattle.std.specs.Prelude.{Ok, ◌≡◌, ℕ, ◌*◌, ◌≤◌, ◌<◌, true, List, [], ◌∷◌, length, replicate}
 use Rattle.lists.specs.Sums.{bit}
 use Rattle.table.specs.Table.{live}
 use Rattle.table.specs.Line.{is_live}
-use Rattle.table.specs.Rules.{not_live, table_refusal}
+use Rattle.table.specs.Rules.{not_live, table_check}
 use Rattle.table.specs.declared.wiring.Wiring.{Wiring}
 use Rattle.plant.specs.Entry.{Entry, State}
 use Rattle.board.specs.Board.{suspicion_of}
@@ -28,7 +28,7 @@ pub record Knows (n : ℕ) (s : State) (y : System) (k : ℕ) : Type 0 where
 -- as many as in the worst case of a run, and where these entries and the first table meet the detection conditions
 abbrev pub WaitInStep : Type 0
 WaitInStep =
-    (w : Wiring) (n : ℕ) (s : State) (hs : List Happening) → table_refusal w n s.table ≡ 0
+    (w : Wiring) (n : ℕ) (s : State) (hs : List Happening) → table_check w n s.table ≡ Ok tt
     → (let y = after_happenings w n s (start n s) hs in
     (k : ℕ) → k < n → live n s.table k ≡ true
     → (let calls = run_of w n (entries_at y k) in

@@ -10,7 +10,6 @@ use Rattle.lists.specs.Search.{every}
 use Rattle.lists.specs.Refusal.{◌and◌}
 use Rattle.lists.proofs.SearchLaws.{every-all}
 use Rattle.lists.proofs.BoolLaws.{by_bool}
-use Rattle.lists.proofs.RefusalLaws.{check_zero}
 use Rattle.table.specs.Table.{live}
 use Rattle.table.specs.Rules.{table_check}
 use Rattle.table.specs.Properties.{no_live_suspicion, none_suspected}
@@ -59,7 +58,7 @@ chain-accepted ends ok = ok
 chain-accepted {w} {n} (next {s} e a z c) ok = chain-accepted c (accepted-kept w n s e a z)
 
 check-ok : (w : Wiring) (n : ℕ) (t : List ℕ) → Accepted w n t → table_check w n t ≡ Ok tt
-check-ok w n t ok = check_zero (table_check w n t) (accepted-number w n t ok)
+check-ok w n t ok = accepted-number w n t ok
 
 -- a table of which the proof of detection speaks is accurate
 plain-accurate : (w : Wiring) (n : ℕ) (L : ℕ → Bool) (t : List ℕ) → Plain w n L t → none_suspected n t ≡ true

@@ -6,16 +6,13 @@ use mathlib.Core.Bool.{false, not}
 use mathlib.Core.List.{List, [], ◌∷◌, ◌++◌}
 use Prim.Native.Nat.{ℕ, zero, suc, ◌+◌, ◌≤◌, ◌<◌}
 use native.Mathlib.Omega.{arith}
-use borrow.Author.Tests.{eqb-true}
-use lib.Dec.{eqb}
 use lib.ListN.{length, length-append}
-use Rattle.lists.proofs.BoolLaws.{by_bool}
 use Rattle.table.specs.Table.{live}
 use Rattle.table.proofs.Accepting.{Accepted, accepted}
 use Rattle.table.specs.declared.wiring.Wiring.{Wiring}
 use Rattle.plant.specs.Turn.{kind_turn}
-use Rattle.plant.specs.Entry.{State, entry_of, entry_refusal, after}
-use Rattle.granter.specs.Grant.{grant_refusal}
+use Rattle.plant.specs.Entry.{State, entry_of, entry_check, after}
+use Rattle.granter.specs.Grant.{grant_check}
 use Rattle.granter.specs.Drive.{Stand, stand_at, granted_at, grant_turn, after_grants, stops, grants_made, outcome_after, drive}
 use Rattle.granter.proofs.GrantLaws.{Grantable, grantable}
 use Rattle.granter.proofs.DriveLaws.{Driving, not_stopped, not-ended, next-taken}
@@ -33,6 +30,8 @@ use Rattle.detection.proofs.DetectionClaim.{trusts, plain-at, first_round}
 use Rattle.latency.specs.Bound.{turns_per_round, turns_until_known, DriveWithin, grants_of, DrivesKnownWithin}
 use Rattle.latency.specs.Crash.{DrivesKnownFromAnyMoment}
 use Rattle.latency.proofs.Known.{Quiet, Facts, facts, known-from-now}
+use Rattle.std.specs.Prelude.{Ok}
+use Rattle.lists.proofs.RefusalLaws.{by_check}
 
 -- two chains, one behind the other
 wired-append : {w : Wiring} {n : ℕ} {s s' s'' : State} {xs ys : List Taken} → WiredChain w n s xs s'
@@ -65,7 +64,7 @@ more-turns a b = record {
 so-many : {w : Wiring} {n : ℕ} {s s' : State} {j k : ℕ} → Turns w n s s' j → j ≡ k → Turns w n s s' k
 so-many a e = record { taken = a.taken; chain = a.chain; quiet = a.quiet; long = a.long ∙ e }
 
-one-turn : (w : Wiring) (n : ℕ) (s : State) (i : ℕ) → Accepted w n s.table → entry_refusal n s (entry_of kind_turn i) ≡ 0
+one-turn : (w : Wiring) (n : ℕ) (s : State) (i : ℕ) → Accepted w n s.table → entry_check n s (entry_of kind_turn i) ≡ Ok tt
     → Turns w n s (after w n s (entry_of kind_turn i)) 1
 unfolding all_taken
 one-turn w n s i ok z = record {
@@ -92,11 +91,9 @@ grants-turns w n s last g (suc k) going =
 drive-turns : (w : Wiring) (n : ℕ) (s : State) (last : ℕ) → Turns w n s (drive w n s last).state (drive w n s last).grants
 unfolding drive outcome_after
 drive-turns w n s last =
-    by_bool (eqb (grant_refusal w n s.table last) 0)
-    (λ e.
-    let z = eqb-true _ 0 e in
-    rw e (grants-turns w n s last (grantable w n s.table last z) (grants_made w n (stand_at s last)) (drive-stops w n s last z).first))
-    (λ e. rw e (no-turns w n s))
+    by_check (grant_check w n s.table last)
+    (λ z. rw z (grants-turns w n s last (grantable w n s.table last z) (grants_made w n (stand_at s last)) (drive-stops w n s last z).first))
+    (λ r z. rw z (no-turns w n s))
 
 -- drives
 drives-turns : (w : Wiring) (n : ℕ) (s : State) (lasts : List ℕ) → Turns w n s (after_drives w n s lasts) (grants_of w n s lasts)
@@ -127,11 +124,9 @@ module _ (w : Wiring) (n : ℕ) (s : State) (given : DetectionPremises w n s [])
   drive-few : (last : ℕ) → (drive w n s last).grants ≤ turns_per_round w n s.table
   unfolding drive outcome_after
   drive-few last =
-      by_bool (eqb (grant_refusal w n s.table last) 0)
-      (λ e.
-      let z = eqb-true _ 0 e in
-      rw e (few last (grantable w n s.table last z) (grants_made w n (stand_at s last)) (drive-stops w n s last z).first))
-      (λ e. rw e (omega arith))
+      by_check (grant_check w n s.table last)
+      (λ z. rw z (few last (grantable w n s.table last z) (grants_made w n (stand_at s last)) (drive-stops w n s last z).first))
+      (λ r z. rw z (omega arith))
 
   drives-known : (lasts : List ℕ) → turns_until_known w n s.table ≤ grants_of w n s lasts → AllKnow n s.table (after_drives w n s lasts).table
   drives-known lasts far = go (chain_first t.chain)

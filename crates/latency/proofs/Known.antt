@@ -21,7 +21,7 @@ use Rattle.table.proofs.Accepting.{Accepted}
 use Rattle.table.specs.declared.wiring.Wiring.{Wiring}
 use Rattle.table.specs.declared.wiring.Wiring.TheVariants.{Cube, Ring}
 use Rattle.plant.specs.Round.{after_round}
-use Rattle.plant.specs.Entry.{Entry, State, is_crash, entry_refusal, acted, after}
+use Rattle.plant.specs.Entry.{Entry, State, is_crash, entry_check, acted, after}
 use Rattle.plant.proofs.RulesKept.{accepted-kept}
 use Rattle.granter.proofs.TurnsLeft.{all_left, all-left-most, turn-left}
 use Rattle.detection.specs.Runs.{Taken, crashes, is_late}
@@ -39,6 +39,7 @@ use Rattle.detection.proofs.RingKnowledge.{ring}
 use Rattle.latency.proofs.CubeTests.{cube-tests}
 use Rattle.latency.proofs.RingTests.{ring-tests}
 use Rattle.latency.proofs.Rounds.{TestsBound, going-start, AllWithin, all-within}
+use Rattle.std.specs.Prelude.{Ok}
 
 -- no crash and no late reply among the entries
 pub record Quiet (xs : List Taken) : Type 0 where
@@ -72,7 +73,7 @@ module _ (w : Wiring) (n : ℕ) (T : List ℕ) (two : 2 ≤ live_count n T) wher
       (step : (s : State) (e : Entry) → Accepted w n s.table → Plain w n L s.table → TurnTaken w n L s e (acted w n s.table e) → Inv s.table
       → Inv (acted w n s.table e) × (left (acted w n s.table e) < left s.table)) where
     -- one taken entry, behind which more are to be made than turns are left and `total`
-    module _ (s : State) (e : Entry) (ok : Accepted w n s.table) (takes : entry_refusal n s e ≡ 0) (p : Plain w n L s.table) (holds : Inv s.table)
+    module _ (s : State) (e : Entry) (ok : Accepted w n s.table) (takes : entry_check n s e ≡ Ok tt) (p : Plain w n L s.table) (holds : Inv s.table)
         (no_crash : is_crash e ≡ false) (in_time : is_late (taken_at w n s e) ≡ false) where
       abbrev t' : List ℕ
       t' = acted w n s.table e

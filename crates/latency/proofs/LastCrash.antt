@@ -27,7 +27,7 @@ use Rattle.table.specs.declared.wiring.Wiring.TheVariants.{Cube, Ring}
 use Rattle.table.proofs.WiringLaws.{same-is}
 use Rattle.plant.specs.Turn.{makes_test, crash}
 use Rattle.plant.specs.Round.{reset_lines, after_round}
-use Rattle.plant.specs.Entry.{Entry, State, is_crash, entry_refusal, acted, after}
+use Rattle.plant.specs.Entry.{Entry, State, is_crash, entry_check, acted, after}
 use Rattle.plant.proofs.RulesKept.{acted-lines, accepted-kept}
 use Rattle.plant.proofs.RoundLaws.{reset-cells, reset-other}
 use Rattle.detection.specs.Runs.{Call, Taken, after_runs, taken_all, is_late, is_on, table_after}
@@ -48,13 +48,14 @@ use Rattle.latency.specs.Bound.{turns_per_round, turns_until_known}
 use Rattle.latency.proofs.Rounds.{TestsBound}
 use Rattle.latency.proofs.CubeTests.{cube-tests}
 use Rattle.latency.proofs.Known.{Quiet, rest-of-round, on-the-ring, facts}
+use Rattle.std.specs.Prelude.{Ok}
 
 -- no live station suspects a live one
 abbrev Clean : ℕ → List ℕ → Type 0
 Clean n t = (i j : ℕ) → i < n → j < n → live n t i ≡ true → live n t j ≡ true → suspects n t i j ≡ 0
 
 -- a taken entry
-module _ (w : Wiring) (n : ℕ) (s : State) (e : Entry) (ok : Accepted w n s.table) (z : entry_refusal n s e ≡ 0) where
+module _ (w : Wiring) (n : ℕ) (s : State) (e : Entry) (ok : Accepted w n s.table) (z : entry_check n s e ≡ Ok tt) where
   abbrev t' : List ℕ
   t' = (after w n s e).table
 
@@ -104,7 +105,7 @@ module _ (w : Wiring) (n : ℕ) (B : TestsBound w n) where
     pub clean : Clean n t
     pub fits : B.Fits (live n t) t
 
-  module _ (s : State) (e : Entry) (ok : Accepted w n s.table) (z : entry_refusal n s e ≡ 0) (in_time : is_late (taken_at w n s e) ≡ false)
+  module _ (s : State) (e : Entry) (ok : Accepted w n s.table) (z : entry_check n s e ≡ Ok tt) (in_time : is_late (taken_at w n s e) ≡ false)
       (two : 2 ≤ live_count n s.table) (st : Steady s.table) where
     abbrev u : List ℕ
     u = acted w n s.table e

@@ -22,7 +22,7 @@ use Rattle.table.specs.Rules.{not_live, some_live, round_over}
 use Rattle.table.proofs.Accepting.{Accepted}
 use Rattle.table.specs.declared.wiring.Wiring.{Wiring}
 use Rattle.plant.specs.Round.{reset_lines, after_round}
-use Rattle.plant.specs.Entry.{Entry, State, is_crash, entry_refusal, acted, after}
+use Rattle.plant.specs.Entry.{Entry, State, is_crash, entry_check, acted, after}
 use Rattle.plant.proofs.RulesKept.{accepted-kept}
 use Rattle.plant.proofs.RoundLaws.{Reset}
 use Rattle.granter.specs.Grant.{granted}
@@ -38,6 +38,7 @@ use Rattle.detection.proofs.TurnEffect.{Plain, Company}
 use Rattle.detection.proofs.DetectionClaim.{company-of, someone}
 use Rattle.detection.proofs.RoundKnowledge.{InRound, restart, TurnTaken, turn-in-round}
 use Rattle.latency.specs.Bound.{turns_per_round, RoundWithin}
+use Rattle.std.specs.Prelude.{Ok}
 
 -- what bounds the tests that live stations have made in a round, whoever tests whom: something that holds of live set and table where a round
 -- starts, and that turns keep, and crashes
@@ -128,7 +129,7 @@ module _ (w : Wiring) (n : ℕ) (T : List ℕ) (two : 2 ≤ live_count n T) (B :
 
   -- one taken entry that is no crash and no late reply
   module _ (t₀ : List ℕ) (cur : List Taken) (s : State) (e : Entry) (ok : Accepted w n s.table)
-      (takes : entry_refusal n s e ≡ 0) (g : Going t₀ cur s.table) (no_crash : is_crash e ≡ false)
+      (takes : entry_check n s e ≡ Ok tt) (g : Going t₀ cur s.table) (no_crash : is_crash e ≡ false)
       (in_time : is_late (taken_at w n s e) ≡ false) where
     abbrev t : List ℕ
     t = s.table

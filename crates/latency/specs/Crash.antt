@@ -1,9 +1,9 @@
 -- The same from the moment at which a board is dead, which may be in the middle of a round: the rest of that round comes first.
 -- Assumes nothing.
-use Rattle.std.specs.Prelude.{◌≡◌, true, not, List, [], ◌∷◌, ◌++◌, ℕ, ◌+◌, ◌*◌, ◌≤◌, length}
+use Rattle.std.specs.Prelude.{Ok, ◌≡◌, true, not, List, [], ◌∷◌, ◌++◌, ℕ, ◌+◌, ◌*◌, ◌≤◌, length}
 use Rattle.table.specs.Sizes.{is_size}
 use Rattle.table.specs.Table.{table_length}
-use Rattle.table.specs.Rules.{table_refusal}
+use Rattle.table.specs.Rules.{table_check}
 use Rattle.table.specs.Properties.{at_start, live_count, none_suspected}
 use Rattle.table.specs.declared.wiring.Wiring.{Wiring}
 use Rattle.plant.specs.Entry.{State}
@@ -20,7 +20,7 @@ turns_from_now w n t = n * n + turns_until_known w n t
 -- the detection conditions at any moment of a round: a table that refusals 1 to 4 let through, two live boards at least, no live one
 -- suspecting a live one; any tally, any list of runs on that wiring, without crashes and late replies of live boards
 pub record AnyMoment (w : Wiring) (n : ℕ) (s : State) (calls : List Call) : Type 0 where
-  pub accepted : table_refusal w n s.table ≡ 0
+  pub accepted : table_check w n s.table ≡ Ok tt
   pub two_live : 2 ≤ live_count n s.table
   pub accurate : none_suspected n s.table ≡ true
   pub one_wiring : all_taken (is_on w) (taken_all s calls) ≡ true

@@ -1,4 +1,4 @@
--- How long a dead board may go unseen, by the number of the wiring, the size and the table, for all inputs.
+-- How long a dead board may go unseen, by the wiring, the size and the table, for all inputs.
 -- Assumes nothing.
 use Rattle.std.specs.Prelude.{ℕ, List, Result, Ok}
 use Rattle.lists.specs.declared.refusal.Refusal.{Refusal}

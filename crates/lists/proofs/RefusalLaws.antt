@@ -45,6 +45,14 @@ pub check_zero : (c : Check) → number_of_result c ≡ 0 → c ≡ Ok tt
 check_zero (Ok x) e = refl
 check_zero (Err r) e = absurd (number_nonzero r e)
 
+-- a check refuses or does not
+pub by_check {ℓ} : {P : Type ℓ} (c : Check) → (c ≡ Ok tt → P) → ((r : Refusal) → c ≡ Err r → P) → P
+by_check (Ok x) met refused = met refl
+by_check (Err r) met refused = refused r refl
+
+pub refused_met : (r : Refusal) → ◌≡◌ {A = Check} (Err r) (Ok tt) → ⊥
+refused_met r e = cc
+
 pub ensure_ok : (b : Bool) (r : Refusal) (x : Unit {0}) → ensure b r ≡ Ok x → b ≡ true
 ensure_ok true r x e = refl
 ensure_ok false r x e = cc

@@ -5,23 +5,23 @@ use mathlib.Core.Bool.{Bool, true, false, cond, not, ◌&&◌, ◌||◌, and-fal
 use mathlib.Core.List.{List, [], ◌∷◌}
 use Prim.Native.Nat.{ℕ, suc, ◌≤◌, ◌<◌}
 use native.Mathlib.Omega.{arith}
-use borrow.Author.Tests.{leb-true, ltb-true, eqb-true, eqb-false, eq-eqb, ne_eqb, not-true}
+use borrow.Author.Tests.{leb-true, ltb-true, eqb-false, eq-eqb, ne_eqb, not-true}
 use lib.Dec.{eqb}
 use lib.ListN.{length}
 use Rattle.lists.specs.Search.{every}
 use Rattle.table.specs.Table.{table_length, finished, live}
-use Rattle.table.specs.Rules.{line_rules, not_live, some_live, finished_if_live, live_finished, table_refusal, round_over}
+use Rattle.table.specs.Rules.{line_rules, not_live, some_live, finished_if_live, live_finished, table_check, round_over}
 use Rattle.lists.proofs.BoolLaws.{neither}
 use Rattle.lists.proofs.SearchLaws.{both, every-at, every-all}
 use Rattle.table.proofs.Accepting.{Accepted, accepted}
 use Rattle.std.specs.Prelude.{Ok}
-use Rattle.lists.proofs.RefusalLaws.{check_zero, ensure_ok, and_ok}
+use Rattle.lists.proofs.RefusalLaws.{by_check, ensure_ok, and_ok}
 use Rattle.table.proofs.CellLaws.{Line, line-holds, accepted-line}
 use Rattle.table.specs.declared.wiring.Wiring.{Wiring}
 use Rattle.plant.specs.Turn.{turn, crash}
 use Rattle.plant.specs.Round.{reset_lines, after_round}
-use Rattle.plant.specs.Entry.{Entry, State, tally_top, is_crash, entry_check, entry_refusal, acted, after, sheet_line}
-use Rattle.plant.specs.Run.{RunResult, entries, write_line, go_on, start_check, start_refusal, run}
+use Rattle.plant.specs.Entry.{Entry, State, tally_top, is_crash, entry_check, acted, after, sheet_line}
+use Rattle.plant.specs.Run.{entries, write_line, go_on, start_check, run}
 use Rattle.plant.proofs.RunLaws.{accepted-number}
 use Rattle.plant.proofs.StepLines.{Lines, leave-lines, turn_lines}
 use Rattle.plant.proofs.RoundLaws.{reset-lines, reset-cells}
@@ -58,10 +58,10 @@ entry_ok n s e x z =
           cc;
     }
 
-pub entry-facts : (n : ℕ) (s : State) (e : Entry) → entry_refusal n s e ≡ 0 → Takes n s e
-entry-facts n s e z = entry_ok n s e _ (check_zero _ z)
+pub entry-facts : (n : ℕ) (s : State) (e : Entry) → entry_check n s e ≡ Ok tt → Takes n s e
+entry-facts n s e z = entry_ok n s e _ (z)
 
-pub acted-lines : (w : Wiring) (n : ℕ) (s : State) (e : Entry) → Accepted w n s.table → entry_refusal n s e ≡ 0
+pub acted-lines : (w : Wiring) (n : ℕ) (s : State) (e : Entry) → Accepted w n s.table → entry_check n s e ≡ Ok tt
     → (length (acted w n s.table e) ≡ table_length n) × ((i : ℕ) → i < n → Line w n (acted w n s.table e) i)
 unfolding acted crash
 acted-lines w n s e a z = pick (is_crash e) refl
@@ -89,7 +89,8 @@ unfinished-open n t zeros = pick (every (finished_if_live n t) n) refl
         rw none
     pick false e = and-false (not (every (not_live n t) n))
 
-pub accepted-kept : (w : Wiring) (n : ℕ) (s : State) (e : Entry) → Accepted w n s.table → entry_refusal n s e ≡ 0 → Accepted w n (after w n s e).table
+pub accepted-kept : (w : Wiring) (n : ℕ) (s : State) (e : Entry) → Accepted w n s.table → entry_check n s e ≡ Ok tt
+    → Accepted w n (after w n s e).table
 unfolding after after_round
 accepted-kept w n s e a z = pick (round_over n t) refl
   where
@@ -114,10 +115,10 @@ accepted-kept w n s e a z = pick (round_over n t) refl
     pick false c = make t lines c
 
 -- rule Empty schedule: on a wiring and a table that refusals 1 to 4 let through it is accepted and changes nothing. An end in itself
-pub empty-run : (w : Wiring) (n : ℕ) (s : State) → table_refusal w n s.table ≡ 0
+pub empty-run : (w : Wiring) (n : ℕ) (s : State) → table_check w n s.table ≡ Ok tt
     → run w n s [] [] ≡ record { number = 0; taken = 0; state = s; sheet = [] }
 unfolding run start_check go_on entries
-empty-run w n s z = rw (check_zero _ z)
+empty-run w n s z = rw z
 
 -- the rest of a run
 accepted-on : (w : Wiring) (n k : ℕ) (s : State) (sheet : List ℕ) (es : List Entry) → Accepted w n s.table
@@ -125,31 +126,16 @@ accepted-on : (w : Wiring) (n k : ℕ) (s : State) (sheet : List ℕ) (es : List
 unfolding go_on
 accepted-on w n k s sheet [] a = a
 accepted-on w n k s sheet (e ∷ es) a =
-    pick (eqb (entry_refusal n s e) 0) refl
-    (λ z. accepted-on w n (suc k) (after w n s e) (write_line sheet k (sheet_line w n s e)) es (accepted-kept w n s e a z))
-  where
-    rest : RunResult
-    rest = go_on w n (suc k) (after w n s e) (write_line sheet k (sheet_line w n s e)) es
-
-    pick : (b : Bool) → eqb (entry_refusal n s e) 0 ≡ b → (entry_refusal n s e ≡ 0 → Accepted w n rest.state.table)
-        → Accepted w n (cond b rest (record { number = entry_refusal n s e; taken = k; state = s; sheet = sheet })).state.table
-    pick true c next = next (eqb-true (entry_refusal n s e) 0 c)
-    pick false c next = a
+    by_check (entry_check n s e)
+    (λ z. rw z (accepted-on w n (suc k) (after w n s e) (write_line sheet k (sheet_line w n s e)) es (accepted-kept w n s e a z)))
+    (λ r z. rw z a)
 
 accepted-run : (w : Wiring) (n : ℕ) (s : State) (schedule sheet : List ℕ) → Accepted w n s.table → Accepted w n (run w n s schedule sheet).state.table
 unfolding run
-accepted-run w n s schedule sheet a = pick (eqb (start_refusal w n s.table (length schedule) (length sheet)) 0)
-  where
-    rest : RunResult
-    rest = go_on w n 0 s sheet (entries schedule)
-
-    pick : (b : Bool)
-        → Accepted w n (cond b rest
-        (record { number = start_refusal w n s.table (length schedule) (length sheet); taken = 0; state = s; sheet = sheet })).state.table
-    pick true = accepted-on w n 0 s sheet (entries schedule) a
-    pick false = a
+accepted-run w n s schedule sheet a =
+    by_check (start_check w n s.table (length schedule) (length sheet)) (λ z. rw z (accepted-on w n 0 s sheet (entries schedule) a)) (λ r z. rw z a)
 
 -- a table that refusals 1 to 4 let through is let through after every run, an end in itself
 pub run-keeps-rules : (w : Wiring) (n : ℕ) (s : State) (schedule sheet : List ℕ)
-    → table_refusal w n s.table ≡ 0 → table_refusal w n (run w n s schedule sheet).state.table ≡ 0
+    → table_check w n s.table ≡ Ok tt → table_check w n (run w n s schedule sheet).state.table ≡ Ok tt
 run-keeps-rules w n s schedule sheet z = accepted-number w n _ (accepted-run w n s schedule sheet (accepted w n s.table z))

@@ -6,11 +6,11 @@ use mathlib.Core.List.{List, [], ◌∷◌, ◌++◌, append_assoc}
 use Prim.Native.Nat.{ℕ, zero, suc, ◌+◌, ◌*◌, ◌-◌, ◌/◌, ◌%◌, ◌≤◌, ◌<◌}
 use native.Mathlib.Numerals.{add-one}
 use native.Mathlib.Omega.{arith}
-use borrow.Author.Tests.{eqb-true, eqb-false, eq-eqb, ne_eqb, not-true}
+use borrow.Author.Tests.{eqb-true, eqb-false, eq-eqb, not-true}
 use lib.ListN.{length, get_or, take, drop, drop_of_length-le}
 use lib.Seq.{drop-drop, sets-eq}
 use Rattle.station.specs.Wired.{wired_station}
-use Rattle.table.specs.Rules.{shape_check, table_check, table_refusal}
+use Rattle.table.specs.Rules.{shape_check, table_check}
 use Rattle.table.specs.Table.{table_length}
 use Rattle.lists.proofs.BoolLaws.{choice}
 use Rattle.table.proofs.Accepting.{Accepted, table_ok}
@@ -18,14 +18,14 @@ use Rattle.std.specs.Prelude.{Ok, Err}
 use Rattle.std.specs.Simd.{first_chunks}
 use Rattle.lists.specs.declared.refusal.Refusal.{Refusal}
 use Rattle.lists.specs.Refusal.{number_of}
-use Rattle.lists.proofs.RefusalLaws.{number_nonzero, check_zero, ensure_ok, and_ok}
+use Rattle.lists.proofs.RefusalLaws.{ensure_ok, and_ok}
 use Rattle.table.specs.declared.wiring.Wiring.{Wiring}
 use Rattle.plant.specs.Turn.{replies, is_told, reply_outcome, test_outcome, makes_test, next_test, turn_outcome}
-use Rattle.plant.specs.Entry.{Entry, State, entry_of, is_crash, is_test, entry_check, entry_refusal, after, shows_test, outcome_of, sheet_line}
-use Rattle.plant.specs.Run.{RunResult, entries, write_line, go_on, start_check, start_refusal, run}
+use Rattle.plant.specs.Entry.{Entry, State, entry_of, is_crash, is_test, entry_check, after, shows_test, outcome_of, sheet_line}
+use Rattle.plant.specs.Run.{RunResult, entries, write_line, go_on, start_check, run}
 
 -- a table that obeys the rules gets no refusal
-pub accepted-number : (w : Wiring) (n : ℕ) (t : List ℕ) → Accepted w n t → table_refusal w n t ≡ 0
+pub accepted-number : (w : Wiring) (n : ℕ) (t : List ℕ) → Accepted w n t → table_check w n t ≡ Ok tt
 unfolding table_check shape_check
 accepted-number w n t a = rw (a.size, eq-eqb (length t) (table_length n) a.long, a.lines, a.unclosed)
 
@@ -85,7 +85,7 @@ module _ (w : Wiring) (n k : ℕ) (s : State) (sheet schedule : List ℕ) where
   abbrev pub from-here : RunResult
   from-here = go_on w n k s sheet (drop k (entries schedule))
 
-  pub go-taken : (e : Entry) (s' : State) (sheet' : List ℕ) → k < length schedule / 2 → e ≡ entry_at schedule k → entry_refusal n s e ≡ 0
+  pub go-taken : (e : Entry) (s' : State) (sheet' : List ℕ) → k < length schedule / 2 → e ≡ entry_at schedule k → entry_check n s e ≡ Ok tt
       → s' ≡ after w n s e → sheet' ≡ write_line sheet k (sheet_line w n s e)
       → go_on w n (k + 1) s' sheet' (drop (k + 1) (entries schedule)) ≡ from-here
   unfolding go_on
@@ -94,18 +94,18 @@ module _ (w : Wiring) (n k : ℕ) (s : State) (sheet schedule : List ℕ) where
   pub go-stopped : (r : Refusal) → k < length schedule / 2 → entry_check n s (entry_at schedule k) ≡ Err r
       → from-here ≡ record { number = number_of r; taken = k; state = s; sheet = sheet }
   unfolding go_on
-  go-stopped r h e = rw (entries_at schedule k h, e, ne_eqb (number_of r) 0 (number_nonzero r))
+  go-stopped r h e = rw (entries_at schedule k h, e)
 
   pub go-done : length schedule / 2 ≤ k → from-here ≡ record { number = 0; taken = k; state = s; sheet = sheet }
   unfolding go_on
   go-done h = rw (drop_of_length-le (entries schedule) {i = k} (omega (arith, entries-length schedule)))
 
 -- a run of one entry, which is taken
-pub start-one : (w : Wiring) (n : ℕ) (t : List ℕ) → table_refusal w n t ≡ 0 → start_refusal w n t 2 4 ≡ 0
+pub start-one : (w : Wiring) (n : ℕ) (t : List ℕ) → table_check w n t ≡ Ok tt → start_check w n t 2 4 ≡ Ok tt
 unfolding start_check
-start-one w n t z = rw (check_zero _ z)
+start-one w n t z = rw (z)
 
-pub go-one : (w : Wiring) (n : ℕ) (s : State) (sheet : List ℕ) (k i : ℕ) → entry_refusal n s (entry_of k i) ≡ 0
+pub go-one : (w : Wiring) (n : ℕ) (s : State) (sheet : List ℕ) (k i : ℕ) → entry_check n s (entry_of k i) ≡ Ok tt
     → (go_on w n 0 s sheet (entries (k ∷ i ∷ []))).state ≡ after w n s (entry_of k i)
 unfolding go_on entries
 go-one w n s sheet k i z = rw z
@@ -118,15 +118,15 @@ start_ok w n t a b x e =
     let q = and_ok _ _ x p.1 in
     (table_ok w n t _ p.0, eqb-false _ _ (not-true _ (ensure_ok _ _ _ q.0)), eqb-true _ _ (ensure_ok _ _ _ q.1))
 
-pub start-facts : (w : Wiring) (n : ℕ) (t : List ℕ) (a b : ℕ) → start_refusal w n t a b ≡ 0 → Accepted w n t × (a % 2 ≡ 1 → ⊥) × (b ≡ 2 * a)
-start-facts w n t a b z = start_ok w n t a b _ (check_zero _ z)
+pub start-facts : (w : Wiring) (n : ℕ) (t : List ℕ) (a b : ℕ) → start_check w n t a b ≡ Ok tt → Accepted w n t × (a % 2 ≡ 1 → ⊥) × (b ≡ 2 * a)
+start-facts w n t a b z = start_ok w n t a b _ (z)
 
 module _ (w : Wiring) (n : ℕ) (s : State) (schedule sheet : List ℕ) where
   pub run-refused : (r : Refusal) → start_check w n s.table (length schedule) (length sheet) ≡ Err r
       → run w n s schedule sheet ≡ record { number = number_of r; taken = 0; state = s; sheet = sheet }
   unfolding run
-  run-refused r e = rw (e, ne_eqb (number_of r) 0 (number_nonzero r))
+  run-refused r e = rw e
 
-  pub run-goes : start_refusal w n s.table (length schedule) (length sheet) ≡ 0 → run w n s schedule sheet ≡ go_on w n 0 s sheet (entries schedule)
+  pub run-goes : start_check w n s.table (length schedule) (length sheet) ≡ Ok tt → run w n s schedule sheet ≡ go_on w n 0 s sheet (entries schedule)
   unfolding run
   run-goes z = rw z

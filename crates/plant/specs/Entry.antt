@@ -3,7 +3,7 @@
 use Rattle.std.specs.Prelude.{ℕ, ◌+◌, Bool, not, ◌&&◌, ◌||◌, List, [], ◌∷◌, if◌then◌else◌, ◌==◌, nat_le}
 use Rattle.table.specs.Table.{status, finished, live}
 use Rattle.lists.specs.declared.refusal.Refusal.TheVariants.{TallyFull, UnknownKind, NotLive, PassFinished}
-use Rattle.lists.specs.Refusal.{Check, ensure, ◌and◌, number_of_result}
+use Rattle.lists.specs.Refusal.{Check, ensure, ◌and◌}
 use Rattle.table.specs.Rules.{round_over, station_check}
 use Rattle.table.specs.declared.wiring.Wiring.{Wiring}
 use Rattle.plant.specs.declared.Tally.{Tally}
@@ -64,9 +64,6 @@ entry_check n s e =
     and station_check n e.station
     and ensure (live n s.table e.station) NotLive
     and ensure (not (not (is_crash e) && finished n s.table e.station == 1)) PassFinished
-
-abbrev pub entry_refusal : ℕ → State → Entry → ℕ
-entry_refusal n s e = number_of_result (entry_check n s e)
 
 -- the table after the crash or the turn, before the round is looked at
 unfoldable pub acted : Wiring → ℕ → List ℕ → Entry → List ℕ

@@ -1,14 +1,14 @@
 -- The run: refusals 1 to 6, then the entries in order; and two claims of it. w is the wiring.
 -- Assumes nothing.
-use Rattle.std.specs.Prelude.{◌≡◌, ℕ, suc, ◌*◌, ◌%◌, not, List, [], ◌∷◌, length, Option, Some, None, if◌then◌else◌, ◌==◌}
+use Rattle.std.specs.Prelude.{Ok, ◌≡◌, ℕ, suc, ◌*◌, ◌%◌, not, List, [], ◌∷◌, length, Option, Some, None, ◌==◌}
 use Rattle.std.proofs.lemmas.List.Edits.{sets}
 use Rattle.lists.specs.declared.refusal.Refusal.TheVariants.{ScheduleLength, SheetLength}
 use Rattle.lists.specs.declared.refusal.Refusal.{Refusal}
-use Rattle.lists.specs.Refusal.{number_of, Check, ensure, ◌and◌, number_of_result}
-use Rattle.table.specs.Rules.{table_check, table_refusal}
+use Rattle.lists.specs.Refusal.{number_of, Check, ensure, ◌and◌, number_of_result, unless_refused}
+use Rattle.table.specs.Rules.{table_check}
 use Rattle.table.specs.declared.wiring.Wiring.{Wiring}
 use Rattle.plant.specs.declared.Ran.{Ran}
-use Rattle.plant.specs.Entry.{Entry, State, state_with, entry_of, entry_refusal, after, sheet_line}
+use Rattle.plant.specs.Entry.{Entry, State, state_with, entry_of, entry_check, after, sheet_line}
 
 -- Rule Schedule: entries one behind the other, two bytes each
 unfoldable pub entries : List ℕ → List Entry
@@ -41,9 +41,8 @@ write_line sheet k line = sets sheet (4 * k) line
 unfoldable pub go_on : Wiring → ℕ → ℕ → State → List ℕ → List Entry → RunResult
 go_on w n k s sheet [] = record { number = 0; taken = k; state = s; sheet = sheet }
 go_on w n k s sheet (e ∷ es) =
-    if entry_refusal n s e == 0
-    then go_on w n (suc k) (after w n s e) (write_line sheet k (sheet_line w n s e)) es
-    else (record { number = entry_refusal n s e; taken = k; state = s; sheet = sheet })
+    unless_refused (entry_check n s e) (record { number = number_of_result (entry_check n s e); taken = k; state = s; sheet = sheet })
+    (go_on w n (suc k) (after w n s e) (write_line sheet k (sheet_line w n s e)) es)
 
 -- refusals 1 to 6: then the schedule has an odd number of bytes; the run sheet is not twice as long as the schedule
 unfoldable pub start_check : Wiring → ℕ → List ℕ → ℕ → ℕ → Check
@@ -52,25 +51,22 @@ start_check w n t schedule_length sheet_length =
     and ensure (not (schedule_length % 2 == 1)) ScheduleLength
     and ensure (sheet_length == 2 * schedule_length) SheetLength
 
-abbrev pub start_refusal : Wiring → ℕ → List ℕ → ℕ → ℕ → ℕ
-start_refusal w n t schedule_length sheet_length = number_of_result (start_check w n t schedule_length sheet_length)
-
 -- Rule Run call: the run of a schedule on a table and a tally with a lent run sheet, for all inputs. A run refused by 1 to 6 gives back the
 -- tally handed in
 unfoldable pub run : Wiring → ℕ → State → List ℕ → List ℕ → RunResult
 run w n s schedule sheet =
-    if start_refusal w n s.table (length schedule) (length sheet) == 0
-    then go_on w n 0 s sheet (entries schedule)
-    else (record { number = start_refusal w n s.table (length schedule) (length sheet); taken = 0; state = s; sheet = sheet })
+    let check = start_check w n s.table (length schedule) (length sheet) in
+    unless_refused check (record { number = number_of_result check; taken = 0; state = s; sheet = sheet })
+    (go_on w n 0 s sheet (entries schedule))
 
 -- Rule Empty schedule: on a table that refusals 1 to 4 let through, with an empty run sheet, it is accepted and changes nothing
 abbrev pub EmptyRun : Type 0
 EmptyRun =
     (w : Wiring) (n : ℕ) (s : State)
-    → table_refusal w n s.table ≡ 0 → run w n s [] [] ≡ record { number = 0; taken = 0; state = s; sheet = [] }
+    → table_check w n s.table ≡ Ok tt → run w n s [] [] ≡ record { number = 0; taken = 0; state = s; sheet = [] }
 
 -- Rule Rules kept: a table that refusals 1 to 4 let through is let through after every run on that wiring too, whatever the run answers
 abbrev pub RunKeepsRules : Type 0
 RunKeepsRules =
     (w : Wiring) (n : ℕ) (s : State) (schedule sheet : List ℕ)
-    → table_refusal w n s.table ≡ 0 → table_refusal w n (run w n s schedule sheet).state.table ≡ 0
+    → table_check w n s.table ≡ Ok tt → table_check w n (run w n s schedule sheet).state.table ≡ Ok tt

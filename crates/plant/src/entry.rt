@@ -2,9 +2,9 @@
 ghost use Rattle.std.specs.Prelude.{◌≡◌, ◌<◌, length, IfOk};
 ghost use Rattle.std.specs.Result.{result_map_both};
 ghost use Rattle.table.specs.Lent.{IsSameLoan};
-ghost use Rattle.table.specs.Rules.{table_refusal};
+ghost use Rattle.table.specs.Rules.{table_check};
 ghost use Rattle.station.specs.Outcome.{tested_byte, outcome_byte};
-ghost use Rattle.plant.specs.Entry.{state_with, entry_of, entry_known, entry_check, entry_refusal, shows_test, acted, after, tested_of, outcome_of};
+ghost use Rattle.plant.specs.Entry.{state_with, entry_of, entry_known, entry_check, shows_test, acted, after, tested_of, outcome_of};
 ghost use Rattle.plant.specs.Entry.{sheet_line};
 
 use crate::kind::Kind;
@@ -73,9 +73,9 @@ pub(crate) fn take_entry(
     line: &mut [u8],
 ) -> Tally
     requires same_size { wired.n ≡ table.old.n }
-    requires table_obeys { table_refusal wired.wiring table.old.n table.old.bytes.now ≡ 0 }
-    requires entry_taken { entry_refusal table.old.n
-        (state_with table.old.bytes.now tally) (entry_known entry) ≡ 0 }
+    requires table_obeys { table_check wired.wiring table.old.n table.old.bytes.now ≡ Ok tt }
+    requires entry_taken { entry_check table.old.n
+        (state_with table.old.bytes.now tally) (entry_known entry) ≡ Ok tt }
     requires line_length { length line.old ≡ 4 }
     ensures same_loan { IsSameLoan table.old table.new }
     ensures state_after { state_with table.new.bytes.now result
@@ -107,7 +107,7 @@ fn made_test(done: Outcome) -> bool
 #[tactic(auto, unfolding(crate::specs::Entry::acted, crate::specs::Entry::tested_of, crate::specs::Entry::outcome_of, crate::specs::Turn::crash))]
 fn act(wired: Wired, table: &mut TableMut, entry: Entry) -> Outcome
     requires same_size { wired.n ≡ table.old.n }
-    requires table_obeys { table_refusal wired.wiring table.old.n table.old.bytes.now ≡ 0 }
+    requires table_obeys { table_check wired.wiring table.old.n table.old.bytes.now ≡ Ok tt }
     requires station_below { entry.station.0 < table.old.n }
     ensures tested_station { tested_byte result
         ≡ tested_of wired.wiring table.old.n table.old.bytes.now (entry_known entry) }

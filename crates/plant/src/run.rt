@@ -3,7 +3,7 @@ ghost use Rattle.std.specs.Prelude.{◌≡◌, length, IfOk};
 ghost use Rattle.std.specs.Result.{result_map_both};
 ghost use Rattle.table.specs.Lent.{IsSameLoan};
 ghost use Rattle.plant.specs.Entry.{state_with};
-ghost use Rattle.plant.specs.Run.{entries, go_on, start_check, start_refusal, outcome_with, run};
+ghost use Rattle.plant.specs.Run.{entries, go_on, start_check, outcome_with, run};
 
 use crate::{Ran, Tally, entry};
 use lists::refusal::Refusal;
@@ -72,8 +72,8 @@ pub(crate) fn go_on(
     schedule: &[u8],
     sheet: &mut [u8],
 ) -> Ran
-    requires { start_refusal wiring table.old.n table.old.bytes.now (length schedule.now) (length sheet.old)
-        ≡ 0 }
+    requires { start_check wiring table.old.n table.old.bytes.now (length schedule.now) (length sheet.old)
+        ≡ Ok tt }
     ensures same_loan { IsSameLoan table.old table.new }
     ensures run { let s = state_with table.old.bytes.now tally in
         outcome_with result table.new.bytes.now sheet.new

@@ -2,9 +2,9 @@
 // `requires`.
 ghost use Rattle.std.specs.Prelude.{◌≡◌};
 ghost use Rattle.table.specs.Lent.{IsSameLoan};
-ghost use Rattle.table.specs.Rules.{table_refusal};
+ghost use Rattle.table.specs.Rules.{table_check};
 ghost use Rattle.plant.specs.Turn.{kind_turn};
-ghost use Rattle.plant.specs.Entry.{state_with, entry_of, entry_refusal, after};
+ghost use Rattle.plant.specs.Entry.{state_with, entry_of, entry_check, after};
 
 use crate::entry::Entry;
 use crate::kind::Kind;
@@ -15,9 +15,9 @@ use table::wiring::Wiring;
 
 // A turn of kind 1 of station i, with no line of a sheet: the rest of a run that has this one entry. The answer is the tally after it.
 pub fn take_turn(wiring: Wiring, table: &mut TableMut, tally: Tally, i: Station) -> Tally
-    requires table_obeys { table_refusal wiring table.old.n table.old.bytes.now ≡ 0 }
-    requires turn_taken { entry_refusal table.old.n
-        (state_with table.old.bytes.now tally) (entry_of kind_turn i.0) ≡ 0 }
+    requires table_obeys { table_check wiring table.old.n table.old.bytes.now ≡ Ok tt }
+    requires turn_taken { entry_check table.old.n
+        (state_with table.old.bytes.now tally) (entry_of kind_turn i.0) ≡ Ok tt }
     ensures same_loan { IsSameLoan table.old table.new }
     ensures state_after { state_with table.new.bytes.now result
         ≡ after wiring table.old.n (state_with table.old.bytes.now tally) (entry_of kind_turn i.0) }

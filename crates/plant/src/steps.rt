@@ -4,7 +4,7 @@ ghost use Rattle.table.specs.Lent.{IsSameLoan};
 ghost use Rattle.table.specs.Table.{tests_made, row, set_row};
 ghost use Rattle.station.specs.Wired.{wired_station};
 ghost use Rattle.station.specs.Rows.{union};
-ghost use Rattle.table.specs.Rules.{table_refusal};
+ghost use Rattle.table.specs.Rules.{table_check};
 ghost use Rattle.plant.specs.Kind.{kind_byte};
 ghost use Rattle.station.specs.Outcome.{tested_byte, outcome_byte};
 ghost use Rattle.plant.specs.Turn.{next_test, finish_pass, count_test, replies, exchange_rows, suspect, leave_told, reply_outcome, test_outcome};
@@ -23,7 +23,7 @@ use table::{Distance, Station, cells};
 // that ends a round, until it is closed, the table breaks rule Round not over, and between two writes to a line not even the line rules hold.
 pub(crate) fn take_turn(wired: Wired, table: &mut TableMut, kind: Kind, i: Station) -> Outcome
     requires same_size { wired.n ≡ table.old.n }
-    requires table_obeys { table_refusal wired.wiring table.old.n table.old.bytes.now ≡ 0 }
+    requires table_obeys { table_check wired.wiring table.old.n table.old.bytes.now ≡ Ok tt }
     requires station_below { i.0 < table.old.n }
     ensures tested_station { tested_byte result
         ≡ turn_tested wired.wiring table.old.n table.old.bytes.now i.0 }
@@ -67,7 +67,7 @@ fn finish_pass(wired: Wired, table: &mut TableMut, i: Station)
 // Station i tests the station at distance m: the test is counted by its outcome, takes effect, and i leaves if it is alone.
 fn make_test(wired: Wired, table: &mut TableMut, kind: Kind, i: Station, m: Distance) -> Outcome
     requires same_size { wired.n ≡ table.old.n }
-    requires table_obeys { table_refusal wired.wiring table.old.n table.old.bytes.now ≡ 0 }
+    requires table_obeys { table_check wired.wiring table.old.n table.old.bytes.now ≡ Ok tt }
     requires tester_below { i.0 < table.old.n }
     requires distance_above_0 { 0 < m.0 }
     requires distance_below { m.0 < wired.end }

@@ -1,6 +1,6 @@
 -- The claims ConverterTakes and ConvertedLoads of specs/Converting hold: which files are converted, and what is read of what is written.
 -- Assumes nothing.
-use mathlib.Core.Path.{◌≡◌, refl, sym, ap, ◌∙◌}
+use mathlib.Core.Path.{◌≡◌, refl, sym, ◌∙◌}
 use mathlib.Core.Bool.{Bool, true, false, not, ◌&&◌}
 use mathlib.Core.List.{List}
 use Rattle.std.specs.Prelude.{Ok, Err}
@@ -18,7 +18,7 @@ use Rattle.lists.proofs.SearchLaws.{both}
 use Rattle.lists.proofs.RefusalLaws.{number_nonzero, check_zero, ensure_ok, and_ok}
 use Rattle.table.specs.Sizes.{is_size}
 use Rattle.table.specs.Table.{table_length}
-use Rattle.table.specs.Rules.{table_refusal}
+use Rattle.table.specs.Rules.{table_check}
 use Rattle.table.specs.declared.wiring.Wiring.TheVariants.{Cube}
 use Rattle.saved.specs.Fields.{runs_past, fields_of, tagged, only_one, only_contents}
 use Rattle.saved.specs.Plant.{size_tag, size_length, tally_tag, tally_length, tally_rounds, tally_tests, size_and_tally, plant_check}
@@ -153,10 +153,10 @@ module _ (file : List ℕ) (small : AreBytes file) (k : Taken file) where
       let q = number_lt (drop 4 contents) (λ i h. drop-bytes 4 contents are_bytes i) in
       (rw a at p, rw b at q)
 
-  table-sound : table_refusal Cube (file_size file) (converted_table (file_size file) (file_table file)) ≡ 0
+  table-sound : table_check Cube (file_size file) (converted_table (file_size file) (file_table file)) ≡ Ok tt
   table-sound =
       let long = length-in (file_size file) (file_lines file) k.lines in
-      ap number_of_result (rules-converted (file_size file) (file_table file) sizes.1 long ∙ k.sound)
+      rules-converted (file_size file) (file_table file) sizes.1 long ∙ k.sound
 
   table-long : length (converted_table (file_size file) (file_table file)) ≡ table_length (file_size file)
   table-long = length-converted (file_size file) (file_table file) (length-in (file_size file) (file_lines file) k.lines)

@@ -13,12 +13,11 @@ use borrow.Author.Tests.{eqb-true, eq-eqb, ne_eqb, ltb-true, not-true}
 use lib.Dec.{ltb, eqb}
 use lib.ListN.{length, get_or, take, drop, length-drop, take-append-drop}
 use lib.Seq.{length-take-le, get_or-drop}
-use Rattle.lists.specs.Refusal.{number_of_result}
 use Rattle.lists.proofs.BoolLaws.{by_bool}
 use Rattle.lists.proofs.SearchLaws.{both}
 use Rattle.lists.proofs.RefusalLaws.{check_zero, ensure_ok, and_ok}
 use Rattle.table.specs.Table.{stride, line_start}
-use Rattle.table.specs.Rules.{table_refusal}
+use Rattle.table.specs.Rules.{table_check}
 use Rattle.table.specs.declared.wiring.Wiring.TheVariants.{Cube}
 use Rattle.saved.specs.Bytes.{bytes_value, bytes_of, concat_of}
 use Rattle.saved.specs.Fields.{Field, field, field_bytes, infront, length_in, extent, fields_up_to, fields, runs_past}
@@ -260,7 +259,7 @@ record Opened (file : List ℕ) : Type 0 where
   follow : in_order nothing_before (after_opening (fields_of file)) ≡ true
   singles : size_and_tally (fields_of file) ≡ true
   right : lines_right (line_field_length (file_size file)) (file_size file) (file_lines file) ≡ true
-  sound : table_refusal Cube (file_size file) (file_table file) ≡ 0
+  sound : table_check Cube (file_size file) (file_table file) ≡ Ok tt
 
 opened : (file : List ℕ) (len : ℕ) → load_check file len ≡ Ok tt → Opened file
 unfolding load_check size_check order_check plant_check rest_check
@@ -277,7 +276,7 @@ opened file len e =
       follow = ensure_ok _ _ tt o.1;
       singles = ensure_ok _ _ tt q.0;
       right = ensure_ok _ _ tt r.0;
-      sound = ap number_of_result (and_ok _ _ tt r.1).1;
+      sound = (and_ok _ _ tt r.1).1;
     }
 
 -- its fields are those that are written of it
@@ -411,4 +410,4 @@ one-form file b b' small z long =
     let e : eqb (length b') (length (saved (file_size file) (file_table file) (file_tally file))) ≡ true = eq-eqb _ _ (long ∙ ap length (sym s)) in
     let f = table-read file b c in
     let r = answer-read file (length b) c in
-    (rw (f, r, check_zero _ o.sound, e), rw (f, r, check_zero _ o.sound, e) s)
+    (rw (f, r, o.sound, e), rw (f, r, o.sound, e) s)

@@ -15,10 +15,9 @@ use lib.ListN.{length}
 use lib.Seq.{take_at, drop_at}
 use Rattle.lists.proofs.BoolLaws.{by_bool}
 use Rattle.lists.proofs.SearchLaws.{both, every-all}
-use Rattle.lists.proofs.RefusalLaws.{check_zero}
 use Rattle.table.specs.Sizes.{is_size}
 use Rattle.table.specs.Table.{stride, table_length, line_start}
-use Rattle.table.specs.Rules.{table_check, table_refusal}
+use Rattle.table.specs.Rules.{table_check}
 use Rattle.table.proofs.Accepting.{accepted}
 use Rattle.table.proofs.SizeLaws.{size-bounds}
 use Rattle.table.specs.declared.wiring.Wiring.TheVariants.{Cube}
@@ -148,7 +147,7 @@ ordered-lines n t (suc k) fs e =
     (weaker fs (record { tag = line_tag; station = suc k }) (record { tag = line_tag; station = k }) (omega arith) (omega arith) e))
 
 -- what a saved plant says
-module _ (n : ℕ) (t : List ℕ) (tally : Tally) (z : table_refusal Cube n t ≡ 0) (small : IsTally tally) where
+module _ (n : ℕ) (t : List ℕ) (tally : Tally) (z : table_check Cube n t ≡ Ok tt) (small : IsTally tally) where
   long : length t ≡ table_length n
   long = (accepted Cube n t z).long
 
@@ -225,7 +224,7 @@ module _ (n : ℕ) (t : List ℕ) (tally : Tally) (z : table_refusal Cube n t �
   load-ok len e =
       let right : lines_right (line_field_length n) n (tagged line_tag plant_fields) ≡ true = rw line-contents (lines-right n t long) in
       let same : eqb len (table_length n) ≡ true = eq-eqb len (table_length n) (e ∙ long) in
-      rw (size-ok, of-saved, table-restored, size-restored, right, same) (check_zero (table_check Cube n t) z)
+      rw (size-ok, of-saved, table-restored, size-restored, right, same) z
 
 pub load-restores : LoadRestores
 unfolding saved_size load_answer load_after

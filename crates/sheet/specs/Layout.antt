@@ -73,7 +73,8 @@ list_width n row = max (widest n row) (length (codes "whom it tests, in order"))
 abbrev pub bounds_line : Option OneDead → List ℕ
 bounds_line None = []
 bounds_line (Some known) =
-    codes "Under a bus master, one board at a time: after at most " ++ decimal known.rounds ++ codes " rounds, " ++ decimal known.grants ++ codes " grants\n"
+    codes "Under a bus master, one board at a time: after at most " ++ decimal known.rounds ++ codes " rounds, " ++ decimal known.grants
+    ++ codes " grants\n"
 
 -- that of n boards, if nobody is dead by the row
 unfoldable pub master_text : ℕ → List ℕ → List ℕ

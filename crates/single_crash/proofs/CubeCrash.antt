@@ -19,7 +19,7 @@ use Rattle.lists.proofs.SumLaws.{sum_by, sum-add, sum-single, sum-const}
 use Rattle.lists.proofs.Xor.{xor-cancel}
 use Rattle.table.specs.Sizes.{level}
 use Rattle.table.specs.Table.{finished, tests_made}
-use Rattle.table.proofs.Levels.{level-split, level-bounds}
+use Rattle.table.proofs.Levels.{level-bounds, level-above}
 use Rattle.table.specs.declared.wiring.Wiring.TheVariants.{Cube}
 use Rattle.station.specs.Groups.{distance, station_at}
 use Rattle.slots.proofs.Counts.{sum-le}
@@ -50,12 +50,6 @@ but-one n b m hb =
     let all : sum_below (λ i. f i + own i) n ≡ n * m = sum_by n term ∙ sum-const m n in
     let e : suc (n - 1) ≡ n = omega arith in
     omega (arith, sum-add f own n, single, all, rw e at (suc-mul (n - 1) m))
-
--- a number from 2^h on has a level above h
-pub level-over : (m h : ℕ) → 2 ^ h ≤ m → suc h ≤ level m
-level-over m h lo =
-    let t = level-split m (omega (arith, pow_pos h)) in
-    by_cases (dec_lt h (suc t.0)) (λ l. omega (arith, t.1)) (λ l. absurd (omega (arith, t.3, pow_mono {i = suc t.0} {j = h} (omega arith))))
 
 -- a multiple of 2^h at level h + 1 is 2^h
 only-power : (m h : ℕ) → level m ≡ suc h → m % 2 ^ h ≡ 0 → m ≡ 2 ^ h
@@ -115,7 +109,7 @@ module _ (n d b : ℕ) (c : Cubic n d) (hb : b < n) (begins : ℕ) (q : Stand) (
 
   -- who is at a multiple of 2^h has a level above h
   above : (h x : ℕ) → x ≢ b → Multiple b h x → suc h ≤ by_distance b x
-  above h x q whole = level-over (distance x b) h (multiple-above h (distance x b) (distance-some x b q) whole)
+  above h x q whole = level-above (distance x b) h (multiple-above h (distance x b) (distance-some x b q) whole)
 
   -- the board that tests b at level h + 1
   abbrev tester : ℕ → ℕ

@@ -14,6 +14,7 @@ use Rattle.table.specs.Table.{head, stride, cell, next_column, finished_column, 
 use Rattle.table.specs.Rules.{round_over}
 use Rattle.table.proofs.CellLaws.{accepted-line}
 use Rattle.table.specs.declared.wiring.Wiring.TheVariants.{Cube}
+use Rattle.table.proofs.Levels.{level-above}
 use Rattle.plant.specs.Turn.{kind_turn, turn, crash}
 use Rattle.plant.proofs.RoundLaws.{Reset}
 use Rattle.station.specs.Groups.{distance}
@@ -35,7 +36,7 @@ use Rattle.single_crash.proofs.CubeRun.{cube-crew, four}
 use Rattle.single_crash.proofs.CubeWhole.{Whole, full_crew, whole-after}
 use Rattle.single_crash.proofs.CubeStages.{turns_to, left_to, left_with, but-others, Spread, Gather, AllAware, spread-less, spread-on}
 use Rattle.single_crash.proofs.CubeStages.{spread-over, spread-left, gather-less, gather-on, gather-over, gather-aware, aware-on}
-use Rattle.single_crash.proofs.CubeCrash.{enough, but-one, level-over, Cut, cut}
+use Rattle.single_crash.proofs.CubeCrash.{enough, but-one, Cut, cut}
 
 -- k grants behind the crash of b, in a round that had number `round`: how far the plant is
 pub data Phase (n d b round k : ℕ) (p : Stand) : Type 0 where
@@ -169,7 +170,7 @@ module _ (n d b : ℕ) (c : Cubic n d) (hb : b < n) (round : ℕ) where
         (λ over.
         let z = crash-closes Cube n b w.begins q crew hb w.running over in
         from-now q' _ z.running (λ i h e. pace-start n d _ i (z.fresh i h))
-        (λ x h e. omega (arith, (z.fresh x h).untested, level-over (distance x b) 0 (distance-some x b e))) (omega (arith, z.rounds)))
+        (λ x h e. omega (arith, (z.fresh x h).untested, level-above (distance x b) 0 (distance-some x b e))) (omega (arith, z.rounds)))
         (λ on.
         let z = crash-goes_on Cube n b w.begins q crew hb w.running on in
         by_cases (ℕ_discrete s 0)

@@ -8,26 +8,26 @@ use Prim.Native.Nat.{ℕ, zero, suc, ◌+◌, ◌≤◌, ◌<◌}
 use native.Mathlib.Decide.{ℕ_discrete}
 use native.Mathlib.Omega.{arith}
 use borrow.Author.Tests.{eq-eqb}
-use lib.Dec.{eqb}
 use Rattle.lists.proofs.BoolLaws.{by_bool, choice}
 use Rattle.table.specs.Rules.{some_live, round_over}
 use Rattle.table.proofs.Accepting.{Accepted}
 use Rattle.table.specs.declared.wiring.Wiring.{Wiring}
 use Rattle.plant.specs.Turn.{kind_turn, kind_crash}
 use Rattle.plant.specs.Entry.{State, entry_of, acted, after}
-use Rattle.granter.specs.Grant.{grant_refusal, following}
+use Rattle.granter.specs.Grant.{grant_check, following}
 use Rattle.granter.specs.Drive.{Stand, stand_at, granted_at, grant_turn, after_grants, ended, ended_after, grants_made, outcome_after, drive}
 use Rattle.granter.proofs.GrantLaws.{grantable}
 use Rattle.single_crash.specs.Setting.{Sound, crash_at, RoundsSince}
 use Rattle.single_crash.specs.Drives.{after_drives, next_drive, grants_of_drives, DrivesAreGrants, RoundsByDrives}
 use Rattle.single_crash.proofs.Running.{Crew, Running, some-live, runs-after}
 use Rattle.single_crash.proofs.Crashing.{everyone, all_but, everyone-crew, others-crew, sound-run, crash-runs}
+use Rattle.lists.proofs.RefusalLaws.{by_check, number_nonzero}
 
 -- one drive is the grants that it makes
 drive-is : (w : Wiring) (n : ℕ) (q : Stand)
     → stand_at (drive w n q.state q.last).state (drive w n q.state q.last).last ≡ after_grants w n q (drive w n q.state q.last).grants
 unfolding drive outcome_after after_grants
-drive-is w n q = by_bool (eqb (grant_refusal w n q.state.table q.last) 0) (λ e. rw e refl) (λ e. rw e refl)
+drive-is w n q = by_check (grant_check w n q.state.table q.last) (λ e. rw e refl) (λ r e. rw e refl)
 
 -- grants behind grants
 grants-add : (w : Wiring) (n : ℕ) (p : Stand) (a b : ℕ) → after_grants w n (after_grants w n p a) b ≡ after_grants w n p (a + b)
@@ -51,10 +51,10 @@ ends-zero : (w : Wiring) (n : ℕ) (q : Stand) → (drive w n q.state q.last).nu
     → ended n q.state.rounds (after_grants w n q (drive w n q.state q.last).grants).state ≡ true
 unfolding drive outcome_after
 ends-zero w n q =
-    by_bool (eqb (grant_refusal w n q.state.table q.last) 0)
+    by_check (grant_check w n q.state.table q.last)
     (λ e. rw e (λ zero.
     by_bool (ended_after w n q (grants_made w n q)) (λ o. o) (λ o. absurd (omega (arith, rw o at zero)))))
-    (λ e. rw e (λ zero. absurd (true≢false (sym (eq-eqb _ 0 zero) ∙ e))))
+    (λ r e. rw e (λ zero. absurd (number_nonzero r zero)))
 
 -- the tally's rounds only grow
 rounds-turn : (w : Wiring) (n : ℕ) (q : Stand) → q.state.rounds ≤ (grant_turn w n q).state.rounds

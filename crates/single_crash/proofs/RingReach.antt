@@ -25,7 +25,7 @@ use Rattle.table.specs.declared.wiring.Wiring.TheVariants.{Ring}
 use Rattle.plant.specs.Entry.{state_of}
 use Rattle.station.proofs.WiredLaws.{place_before, place_behind}
 use Rattle.plant.specs.Turn.{kind_turn, turn, crash}
-use Rattle.granter.specs.Grant.{no_grant, waits, following, last_refusal}
+use Rattle.granter.specs.Grant.{no_grant, waits, following, last_check}
 use Rattle.granter.specs.Fairness.{stations_before}
 use Rattle.granter.specs.Drive.{Stand, stand_at, granted_at, grant_turn, after_grants}
 use Rattle.detection.proofs.RoundKnowledge.{all-finished}
@@ -45,6 +45,7 @@ use Rattle.single_crash.proofs.RingKnown.{sound-before}
 use Rattle.single_crash.proofs.RingSlow.{WaitingSlow, Slow, slow_waiting, slow-unaware, slow-rounds, slow-after}
 use Rattle.single_crash.proofs.FreshSound.{fresh-is-sound}
 use Rattle.table.specs.declared.wiring.Wiring.{Wiring}
+use Rattle.std.specs.Prelude.{Ok}
 
 abbrev w : Wiring
 w = Ring
@@ -53,7 +54,7 @@ w = Ring
 abbrev started : ℕ → Stand
 started n = stand_at (state_of (fresh_table n) 0 0) no_grant
 
-none-fits : (n : ℕ) → last_refusal n no_grant ≡ 0
+none-fits : (n : ℕ) → last_check n no_grant ≡ Ok tt
 none-fits n = by_bool (leb n no_grant) (λ e. rw e refl) (λ e. rw e refl)
 
 module _ (n : ℕ) (size : is_size n ≡ true) (four : 4 ≤ n) where

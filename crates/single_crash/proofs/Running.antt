@@ -21,15 +21,17 @@ use Rattle.plant.specs.Entry.{state_of, acted, after}
 use Rattle.plant.proofs.RulesKept.{unfinished-open}
 use Rattle.plant.proofs.RoundLaws.{Reset, reset-cells}
 use Rattle.plant.proofs.TurnHeads.{Heads}
-use Rattle.granter.specs.Grant.{waits, following, last_refusal}
+use Rattle.granter.specs.Grant.{waits, following, last_check}
 use Rattle.granter.specs.Drive.{Stand, stand_at, granted_at, grant_turn, after_grants}
 use Rattle.granter.proofs.GrantLaws.{waits-parts, station-fits}
 use Rattle.detection.proofs.TurnEffect.{Plain, Company, Grown, Exact, TurnKept, turn-effect}
 use Rattle.detection.proofs.RoundKnowledge.{reset-rows}
 use Rattle.single_crash.specs.Sweeps.{turns_made}
 use Rattle.single_crash.proofs.Sweeps.{InSweep, sweep-start, Next, Moved, sweep-next}
-use Rattle.single_crash.proofs.SweepLaw.{begins-fits, Going}
+use Rattle.single_crash.proofs.SweepLaw.{Going}
+use Rattle.granter.proofs.Fair.{following-most}
 use Rattle.single_crash.proofs.SweepLaw as law
+use Rattle.std.specs.Prelude.{Ok}
 
 -- wiring and size, and who is live: each live board has another one beside it
 pub record Crew (w : Wiring) (n : ℕ) (L : ℕ → Bool) : Type 0 where
@@ -41,7 +43,7 @@ pub record Crew (w : Wiring) (n : ℕ) (L : ℕ → Bool) : Type 0 where
 pub record Running (w : Wiring) (n : ℕ) (L : ℕ → Bool) (begins : ℕ) (p : Stand) : Type 0 where
   pub plain : Plain w n L p.state.table
   pub unclosed : round_over n p.state.table ≡ false
-  pub last_fits : last_refusal n p.last ≡ 0
+  pub last_fits : last_check n p.last ≡ Ok tt
   pub fits : begins ≤ n
   pub sweep : InSweep n begins (waits n p.state.table) (turns_made n p.state.table) p.last
 
@@ -76,15 +78,15 @@ module _ (w : Wiring) (n : ℕ) (L : ℕ → Bool) (crew : Crew w n L) where
   }
 
   -- where a round begins
-  pub begin : (p : Stand) → Plain w n L p.state.table → ((i : ℕ) → i < n → Reset n p.state.table i) → last_refusal n p.last ≡ 0
+  pub begin : (p : Stand) → Plain w n L p.state.table → ((i : ℕ) → i < n → Reset n p.state.table i) → last_check n p.last ≡ Ok tt
       → Running w n L (following p.last) p
   begin p plain fresh fits = record {
     plain = plain;
     unclosed = unfinished-open n p.state.table (λ i h. (fresh i h).unfinished);
     last_fits = fits;
-    fits = begins-fits n p.last fits;
+    fits = following-most n p.last fits;
     sweep =
-        sweep-start n p.last (waits n p.state.table) (turns_made n p.state.table) (begins-fits n p.last fits)
+        sweep-start n p.last (waits n p.state.table) (turns_made n p.state.table) (following-most n p.last fits)
         (λ i h. omega (arith, (fresh i h).untested, (fresh i h).unfinished));
   }
 

@@ -20,31 +20,26 @@ use Rattle.table.proofs.CellLaws.{accepted-line}
 use Rattle.table.specs.declared.wiring.Wiring.{Wiring}
 use Rattle.plant.specs.Turn.{kind_turn, next_test, makes_test, outcome_at, turn}
 use Rattle.plant.specs.Round.{after_round}
-use Rattle.plant.specs.Entry.{Entry, State, state_of, entry_of, entry_refusal, acted, after}
+use Rattle.plant.specs.Entry.{Entry, State, state_of, entry_of, entry_check, acted, after}
 use Rattle.plant.proofs.RulesKept.{accepted-kept}
 use Rattle.plant.proofs.RoundLaws.{reset-other}
 use Rattle.plant.proofs.RunLaws.{accepted-number}
 use Rattle.plant.proofs.TurnHeads.{Heads, turn-heads}
-use Rattle.granter.specs.Grant.{no_grant, waits, following, last_refusal, grant_refusal}
+use Rattle.granter.specs.Grant.{waits, following, last_check, grant_check}
 use Rattle.granter.specs.Drive.{Stand, granted_at, grant_turn, after_grants, ended, ended_after}
-use Rattle.granter.proofs.GrantLaws.{granted-waits, waits-parts, grantable, grant-zero, station-fits, last-below, turn-taken}
+use Rattle.granter.proofs.GrantLaws.{granted-waits, waits-parts, grantable, grant-zero, station-fits, turn-taken}
 use Rattle.granter.proofs.DriveLaws.{not-ended}
-use Rattle.granter.proofs.Fair.{next-going-round}
+use Rattle.granter.proofs.Fair.{next-going-round, following-most}
 use Rattle.detection.proofs.Fates.{was-live}
 use Rattle.single_crash.specs.Sweeps.{turns_made, InTurn, GrantsGoInSweeps}
 use Rattle.single_crash.proofs.Sweeps.{InSweep, sweep-start, Next, Moved, sweep-next, sweep-fewest, sweep-first}
-
--- where a round begins, the going round begins at n at the most
-pub begins-fits : (n last : ℕ) → last_refusal n last ≡ 0 → following last ≤ n
-unfolding following
-begins-fits n last fits =
-    by_bool (eqb last no_grant) (λ e. rw e (omega arith)) (λ e. rw e (omega (arith, last-below n last fits e)))
+use Rattle.std.specs.Prelude.{Ok}
 
 -- where the drive stands in a round that began at place `begins`
 pub record Going (w : Wiring) (n begins : ℕ) (p : Stand) : Type 0 where
   pub ok : Accepted w n p.state.table
   pub someone : some_live n p.state.table ≡ true
-  pub last_fits : last_refusal n p.last ≡ 0
+  pub last_fits : last_check n p.last ≡ Ok tt
   pub sweep : InSweep n begins (waits n p.state.table) (turns_made n p.state.table) p.last
 
 module _ (w : Wiring) (n begins : ℕ) (p : Stand) (now : Going w n begins p) where
@@ -81,7 +76,7 @@ module _ (w : Wiring) (n begins : ℕ) (p : Stand) (now : Going w n begins p) wh
   abbrev s : State
   s = state_of t 0 0
 
-  taken : entry_refusal n s e ≡ 0
+  taken : entry_check n s e ≡ Ok tt
   taken = turn-taken n s g refl chosen.0 chosen.1
 
   lived : (i : ℕ) → i < n → live n t' i ≡ true → live n t i ≡ true
@@ -135,12 +130,12 @@ module _ (w : Wiring) (n begins : ℕ) (p : Stand) (now : Going w n begins p) wh
     }
 
 -- after k grants
-module _ (w : Wiring) (n : ℕ) (p : Stand) (granted : grant_refusal w n p.state.table p.last ≡ 0) (start : at_start n p.state.table ≡ true) where
+module _ (w : Wiring) (n : ℕ) (p : Stand) (granted : grant_check w n p.state.table p.last ≡ Ok tt) (start : at_start n p.state.table ≡ true) where
   abbrev begins : ℕ
   begins = following p.last
 
   fits : begins ≤ n
-  fits = begins-fits n p.last (grantable w n p.state.table p.last granted).last_fits
+  fits = following-most n p.last (grantable w n p.state.table p.last granted).last_fits
 
   pub none-made : (i : ℕ) → i < n → turns_made n p.state.table i ≡ 0
   unfolding at_start

@@ -1,7 +1,7 @@
 -- One board dies under the bus master: how many grants later, and how many rounds, each other board suspects it. w is the wiring, p where
 -- the drive stands at first, and b the board that dies.
 -- Assumes nothing.
-use Rattle.std.specs.Prelude.{◌≡◌, true, not, ℕ, ◌+◌, ◌≤◌, ◌<◌, ◌==◌, List}
+use Rattle.std.specs.Prelude.{Ok, ◌≡◌, true, not, ℕ, ◌+◌, ◌≤◌, ◌<◌, ◌==◌, List}
 use Rattle.table.specs.Sizes.{is_size}
 use Rattle.table.specs.Table.{suspects, live}
 use Rattle.table.specs.Fresh.{fresh_table}
@@ -9,13 +9,13 @@ use Rattle.table.specs.Properties.{at_start, ExactRows}
 use Rattle.table.specs.declared.wiring.Wiring.{Wiring}
 use Rattle.plant.specs.Turn.{kind_crash}
 use Rattle.plant.specs.Entry.{state_of, entry_of, after}
-use Rattle.granter.specs.Grant.{last_refusal, grant_refusal}
+use Rattle.granter.specs.Grant.{last_check, grant_check}
 use Rattle.granter.specs.Drive.{Stand, stand_at, after_grants}
 
 -- a sound plant at the start of a round: the grant is not refused, every board is live, and nobody suspects anybody. Tally and last granted number
 -- may be any
 pub record Sound (w : Wiring) (n : ℕ) (p : Stand) : Type 0 where
-  pub granted : grant_refusal w n p.state.table p.last ≡ 0
+  pub granted : grant_check w n p.state.table p.last ≡ Ok tt
   pub start : at_start n p.state.table ≡ true
   pub all_live : (i : ℕ) → i < n → live n p.state.table i ≡ true
   pub nobody : (i j : ℕ) → i < n → j < n → suspects n p.state.table i j ≡ 0
@@ -23,7 +23,7 @@ pub record Sound (w : Wiring) (n : ℕ) (p : Stand) : Type 0 where
 -- Rule Conditions are met: a plant with a fresh table is sound, whatever the tally, and whatever the last granted number if 16 lets it through
 abbrev pub FreshIsSound : Type 0
 FreshIsSound =
-    (w : Wiring) (n rounds tests last : ℕ) → is_size n ≡ true → last_refusal n last ≡ 0
+    (w : Wiring) (n rounds tests last : ℕ) → is_size n ≡ true → last_check n last ≡ Ok tt
     → Sound w n (stand_at (state_of (fresh_table n) rounds tests) last)
 
 -- board b crashes. The last granted number stays

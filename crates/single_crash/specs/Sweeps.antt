@@ -1,10 +1,10 @@
 -- In which order the bus master grants the turns of a round, whatever the wiring and whoever suspects whom.
 -- Assumes nothing.
-use Rattle.std.specs.Prelude.{◌≡◌, true, false, List, ℕ, ◌+◌, ◌≤◌, ◌<◌}
+use Rattle.std.specs.Prelude.{Ok, ◌≡◌, true, false, List, ℕ, ◌+◌, ◌≤◌, ◌<◌}
 use Rattle.table.specs.Table.{finished, tests_made}
 use Rattle.table.specs.Properties.{at_start}
 use Rattle.table.specs.declared.wiring.Wiring.{Wiring}
-use Rattle.granter.specs.Grant.{waits, following, granted, grant_refusal}
+use Rattle.granter.specs.Grant.{waits, following, granted, grant_check}
 use Rattle.granter.specs.Fairness.{stations_before}
 use Rattle.granter.specs.Drive.{Stand, after_grants, ended_after}
 
@@ -23,6 +23,6 @@ pub record InTurn (n : ℕ) (t : List ℕ) (last begun : ℕ) : Type 0 where
 -- any station's second, and so on, each time in the same order
 abbrev pub GrantsGoInSweeps : Type 0
 GrantsGoInSweeps =
-    (w : Wiring) (n : ℕ) (p : Stand) (k : ℕ) → grant_refusal w n p.state.table p.last ≡ 0 → at_start n p.state.table ≡ true
+    (w : Wiring) (n : ℕ) (p : Stand) (k : ℕ) → grant_check w n p.state.table p.last ≡ Ok tt → at_start n p.state.table ≡ true
     → ((j : ℕ) → j ≤ k → ended_after w n p j ≡ false)
     → InTurn n (after_grants w n p k).state.table (after_grants w n p k).last p.last

@@ -1,12 +1,12 @@
 -- What is claimed besides of the answer to whether a distance is due, and of the assignment: the run does not need it.
 -- Assumes nothing.
-use Rattle.std.specs.Prelude.{◌≡◌, true, List, ℕ, ◌*◌, ◌-◌, ◌≤◌, ◌<◌, length, Some, ◌==◌}
+use Rattle.std.specs.Prelude.{Ok, ◌≡◌, true, List, ℕ, ◌*◌, ◌-◌, ◌≤◌, ◌<◌, length, Some, ◌==◌}
 use Rattle.std.specs.List.{filter}
 use Rattle.std.specs.Int.Bits.{bit_or}
 use Rattle.table.specs.Sizes.{is_size, level}
 use Rattle.station.specs.Groups.{distance, station_at, width}
 use Rattle.table.specs.Table.{row}
-use Rattle.table.specs.Rules.{table_refusal}
+use Rattle.table.specs.Rules.{table_check}
 use Rattle.table.specs.declared.wiring.Wiring.TheVariants.{Cube}
 use Rattle.station.specs.Tests.{unsuspected, first, answer, due_distances}
 use Rattle.station.specs.Calls.{other_distances, answer_byte, assignment_entries}
@@ -14,7 +14,7 @@ use Rattle.station.specs.Ahead.{Before}
 
 -- a table that refusals 1 to 4 let through: no row suspects its own station, as the claims below ask of a row
 abbrev pub OwnUnsuspected : Type 0
-OwnUnsuspected = (n : ℕ) (t : List ℕ) (i : ℕ) → table_refusal Cube n t ≡ 0 → i < n → unsuspected (row n t i) i ≡ true
+OwnUnsuspected = (n : ℕ) (t : List ℕ) (i : ℕ) → table_check Cube n t ≡ Ok tt → i < n → unsuspected (row n t i) i ≡ true
 
 -- Rule Assignment exact: of a row that does not suspect its own station somebody is first at every distance but 0
 abbrev pub SomebodyFirst : Type 0

@@ -12,9 +12,9 @@ use Rattle.lists.specs.Search.{every}
 use Rattle.table.specs.Sizes.{is_size}
 use Rattle.table.specs.Table.{table_length}
 use Rattle.table.specs.Rules.{line_rules, not_live, some_live, finished_if_live, live_finished, shape_check, table_check}
-use Rattle.table.specs.Rules.{table_check, table_refusal}
+use Rattle.table.specs.Rules.{table_check}
 use Rattle.lists.proofs.Loops.{every-stop, every-done}
-use Rattle.lists.proofs.RefusalLaws.{check_zero, ensure_ok, and_ok}
+use Rattle.lists.proofs.RefusalLaws.{ensure_ok, and_ok}
 use Rattle.table.specs.declared.wiring.Wiring.{Wiring}
 
 -- refusal 4: one live station that has not finished keeps the round open
@@ -57,8 +57,8 @@ table_ok w n t x e =
       unclosed = not-true _ (ensure_ok _ _ _ q.1);
     }
 
-pub accepted : (w : Wiring) (n : ℕ) (t : List ℕ) → table_refusal w n t ≡ 0 → Accepted w n t
-accepted w n t e = table_ok w n t _ (check_zero _ e)
+pub accepted : (w : Wiring) (n : ℕ) (t : List ℕ) → table_check w n t ≡ Ok tt → Accepted w n t
+accepted w n t e = table_ok w n t _ e
 
 -- what the loop over a round asks
 pub ruleset rounds = (round-open, round-done)

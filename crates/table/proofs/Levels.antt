@@ -43,7 +43,7 @@ level-le m k h =
     omega arith
 
 -- a distance of 2^s or more has a level above s
-level-above : (m s : ℕ) → 2 ^ s ≤ m → s < level m
+pub level-above : (m s : ℕ) → 2 ^ s ≤ m → s < level m
 level-above m s h = let not-below : ¬ (level m ≤ s) = λ l. omega (arith, level-upper m, pow_mono l) in omega arith
 
 pub level-is : (m h : ℕ) → 2 ^ h ≤ m → m < 2 ^ suc h → level m ≡ suc h

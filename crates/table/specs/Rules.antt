@@ -8,7 +8,7 @@ use Rattle.table.specs.declared.wiring.Wiring.{Wiring}
 use Rattle.table.specs.Table.{table_length, cell, status_column, status_told, next_column, finished_column, tests_column, finished, told_by_column}
 use Rattle.table.specs.Table.{told_by_none, not_recorded, rounds_ago_column, suspects, live}
 use Rattle.lists.specs.declared.refusal.Refusal.TheVariants.{SizeOutOfRange, TableLength, LineRule, RoundNotClosed, NoSuchStation, ListLength}
-use Rattle.lists.specs.Refusal.{Check, ensure, ◌and◌, number_of_result}
+use Rattle.lists.specs.Refusal.{Check, ensure, ◌and◌}
 
 -- Rule Status range: byte 0 is 0 to 3
 abbrev pub status_rule : ℕ → Bool
@@ -80,10 +80,6 @@ shape_check n len = ensure (is_size n) SizeOutOfRange and ensure (len == table_l
 unfoldable pub table_check : Wiring → ℕ → List ℕ → Check
 table_check w n t =
     shape_check n (length t) and ensure (every (line_rules w n t) n) LineRule and ensure (not (round_over n t)) RoundNotClosed
-
--- its number
-abbrev pub table_refusal : Wiring → ℕ → List ℕ → ℕ
-table_refusal w n t = number_of_result (table_check w n t)
 
 -- refusal 9: the station's number is n or more
 abbrev pub station_check : ℕ → ℕ → Check

@@ -1,4 +1,4 @@
--- The wiring of a plant: its number, and its end distance.
+-- The wiring of a plant: which one a number stands for, and its end distance.
 -- Assumes nothing.
 use Rattle.std.specs.Prelude.{ℕ, Bool, true, false, not, Result, Ok, Err, if◌then◌else◌, ◌==◌}
 use Rattle.table.specs.Sizes.{distances}
@@ -7,12 +7,7 @@ use Rattle.table.specs.declared.wiring.Wiring.TheVariants.{Cube, Ring}
 use Rattle.lists.specs.declared.refusal.Refusal.{Refusal}
 use Rattle.lists.specs.declared.refusal.Refusal.TheVariants.{NoSuchWiring}
 
--- Rule Wiring number: 1 is the cube, 2 the ring
-abbrev pub wiring_number : Wiring → ℕ
-wiring_number Cube = 1
-wiring_number Ring = 2
-
--- the wiring that a number stands for; refusal 24 where there is none
+-- Rule Wiring number: 1 is the cube, 2 the ring; refusal 24 for another
 abbrev pub wiring_of : ℕ → Result Wiring Refusal
 wiring_of number = if number == 1 then Ok Cube else (if number == 2 then Ok Ring else Err NoSuchWiring)
 

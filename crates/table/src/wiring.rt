@@ -1,6 +1,6 @@
 // The wiring of a plant, as a value and as the number that a call is given.
 ghost use Rattle.std.specs.Prelude.{◌≡◌, ◌≤◌};
-ghost use Rattle.table.specs.Wiring.{wiring_number, wiring_of, end_distance};
+ghost use Rattle.table.specs.Wiring.{wiring_of, end_distance};
 
 use crate::sizes;
 use lists::refusal::Refusal;

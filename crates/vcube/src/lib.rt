@@ -15,7 +15,7 @@ ghost use Rattle.detection.specs.Runs.{call_of, CountsTaken};
 ghost use Rattle.detection.specs.InList.{DetectionInList, DrivenDetectionInList};
 ghost use Rattle.detection.specs.Driven.{a_run, a_drive};
 ghost use Rattle.accuracy.specs.Accurate.{AccurateAfter};
-ghost use Rattle.granter.specs.Grant.{grant_refusal, grant_station};
+ghost use Rattle.granter.specs.Grant.{grant_check, grant_station};
 ghost use Rattle.granter.specs.Drive.{drive, StoppedIfTaken};
 ghost use Rattle.lamp.specs.Doubt.{doubt_lamp};
 ghost use Rattle.mender.specs.Report.{mend, table_after, report_after};
@@ -218,7 +218,7 @@ pub extern "C" fn vcube_grant(
     last: usize,
     station: &mut usize,
 ) -> u8
-    ensures number { result ≡ on_wiring wiring no_such_wiring (λ w. grant_refusal w n table.now last) }
+    ensures number { result ≡ on_wiring wiring no_such_wiring (λ w. number_of_result (grant_check w n table.now last)) }
     ensures station_after { station.new ≡ on_wiring wiring 0 (λ w. grant_station w n table.now last) }
 {
     let Ok(wiring) = Wiring::try_from(wiring) else {

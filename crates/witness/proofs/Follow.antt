@@ -28,13 +28,14 @@ use Rattle.station.specs.Wired.{next_after}
 use Rattle.plant.proofs.NextTest.{cube-next, next_test-low, not-due-before, test_below, test-due, none-due}
 use Rattle.plant.proofs.TurnHeads.{Heads, turn-heads}
 use Rattle.plant.specs.Round.{reset_lines, after_round}
-use Rattle.plant.specs.Entry.{Entry, State, entry_of, tally_top, tally_full, is_test, entry_check, entry_refusal, acted, after}
+use Rattle.plant.specs.Entry.{Entry, State, entry_of, tally_top, tally_full, is_test, entry_check, acted, after}
 use Rattle.plant.proofs.RulesKept.{Takes, entry-facts, accepted-kept}
 use Rattle.plant.proofs.RoundLaws.{reset-cells, reset-other}
 use Rattle.detection.proofs.TurnEffect.{Company}
 use Rattle.detection.proofs.RoundKnowledge.{reset-rows}
 use Rattle.witness.proofs.Moves.{Like, live_below, due-same, due-none, Heads-of, extra, both-finish, finish-next, both-test, test-next}
 use Rattle.witness.proofs.Slow.{Goes, stop, go, goes-append}
+use Rattle.std.specs.Prelude.{Ok}
 
 -- a round that is over in one table is over in another, if each live board of the other is one of the first, as far with its pass
 over-as : (m : ℕ) (t : List ℕ) (m' : ℕ) (t' : List ℕ) → (a : ℕ) → a < m' → live m' t' a ≡ true
@@ -99,7 +100,7 @@ module _ (n N : ℕ) (L : ℕ → Bool) (low : n ≤ N) (absent : (k : ℕ) → 
     pub Ok : Accepted Cube N w.table
 
   -- a turn of i in the first plant, which is taken
-  module _ (s : State) (i : ℕ) (ok : Accepted Cube n s.table) (z : entry_refusal n s (entry_of kind_turn i) ≡ 0) (li : L i ≡ true) where
+  module _ (s : State) (i : ℕ) (ok : Accepted Cube n s.table) (z : entry_check n s (entry_of kind_turn i) ≡ Ok tt) (li : L i ≡ true) where
     abbrev t : List ℕ
     t = s.table
 
@@ -134,7 +135,7 @@ module _ (n N : ℕ) (L : ℕ → Bool) (low : n ≤ N) (absent : (k : ℕ) → 
       h : i < N
       h = omega (arith, below i li)
 
-      taken : entry_refusal N w e ≡ 0
+      taken : entry_check N w e ≡ Ok tt
       unfolding entry_check
       taken =
           let full : tally_full w.rounds w.tests ≡ false =

@@ -1,27 +1,28 @@
 -- Plants that compute: turns that are all taken, checked by computing, whole or round by round.
 -- Assumes nothing.
 use mathlib.Core.Path.{◌≡◌, refl, sym, subst, ◌∙◌}
-use mathlib.Core.Bool.{Bool, true, false, cond, ◌&&◌}
+use mathlib.Core.Bool.{Bool, true, false, ◌&&◌}
 use mathlib.Core.List.{List, [], ◌∷◌, ◌++◌}
 use Prim.Native.Nat.{ℕ, suc, ◌+◌, ◌≤◌}
 use native.Mathlib.Nat.{zero-add}
 use borrow.Author.Tests.{eqb-true, ltb-true, leb-true}
 use lib.Dec.{eqb, ltb, leb}
 use lib.ListN.{length}
-use Rattle.lists.proofs.BoolLaws.{by_bool}
 use Rattle.lists.proofs.SearchLaws.{both}
 use Rattle.table.specs.Sizes.{is_size, dimension}
 use Rattle.table.specs.Table.{head, table_length, set_cell, suspects, live, rounds_ago_column}
-use Rattle.table.specs.Rules.{not_live, table_refusal}
+use Rattle.table.specs.Rules.{not_live, table_check}
 use Rattle.table.specs.Properties.{at_start, live_count, none_suspected}
 use Rattle.table.specs.Fresh.{fresh_table}
 use Rattle.table.specs.declared.wiring.Wiring.TheVariants.{Cube}
 use Rattle.plant.specs.Turn.{crash, kind_turn}
-use Rattle.plant.specs.Entry.{State, state_of, entry_of, entry_refusal, after}
+use Rattle.plant.specs.Entry.{State, state_of, entry_of, entry_check, after}
 use Rattle.detection.specs.Runs.{taken_all}
 use Rattle.detection.specs.Rounds.{all_taken}
 use Rattle.detection.specs.Claim.{worst_latency}
 use Rattle.witness.proofs.Slow.{Goes, stop, go, goes-append, Slow}
+use Rattle.lists.proofs.RefusalLaws.{by_check, check_zero}
+use Rattle.lists.specs.Refusal.{unless_refused, number_of_result}
 
 -- a table with these boards crashed, so many rounds ago
 unfoldable pub crashed : ℕ → List ℕ → List ℕ → ℕ → List ℕ
@@ -35,7 +36,7 @@ first_state n dead = state_of (crashed n (fresh_table n) dead 0) 0 0
 -- all turns are taken, and the state that they leave passes q
 unfoldable pub arrives : ℕ → State → List ℕ → (State → Bool) → Bool
 arrives n s [] q = q s
-arrives n s (i ∷ is) q = cond (eqb (entry_refusal n s (entry_of kind_turn i)) 0) (arrives n (after Cube n s (entry_of kind_turn i)) is q) false
+arrives n s (i ∷ is) q = unless_refused (entry_check n s (entry_of kind_turn i)) false (arrives n (after Cube n s (entry_of kind_turn i)) is q)
 
 -- what they leave
 pub record Arrival (n : ℕ) (s : State) (is : List ℕ) (q : State → Bool) : Type 0 where
@@ -47,17 +48,17 @@ pub arrival : (n : ℕ) (s : State) (is : List ℕ) (q : State → Bool) → arr
 unfolding arrives
 arrival n s [] q e = record { left = s; goes = stop; passes = e }
 arrival n s (i ∷ is) q e =
-    by_bool (eqb (entry_refusal n s (entry_of kind_turn i)) 0)
+    by_check (entry_check n s (entry_of kind_turn i))
     (λ z.
     let rest = arrival n (after Cube n s (entry_of kind_turn i)) is q (rw z at e) in
-    record { left = rest.left; goes = go i (eqb-true _ 0 z) rest.goes; passes = rest.passes })
-    (λ z. cc (rw z at e))
+    record { left = rest.left; goes = go i z rest.goes; passes = rest.passes })
+    (λ r z. cc (rw z at e))
 
 -- the table is one of those that the claim describes, and refusals let it through
 abbrev described : ℕ → State → Bool
 described n s =
     is_size n && eqb (length s.table) (table_length n) && at_start n s.table && ltb 1 (live_count n s.table) && none_suspected n s.table
-    && eqb (table_refusal Cube n s.table) 0
+    && eqb (number_of_result (table_check Cube n s.table)) 0
 
 -- board i is live and board j is not
 abbrev apart : ℕ → State → ℕ → ℕ → Bool
@@ -92,7 +93,7 @@ slow-plant n dead i j begun turns few a =
     let ends = both _ _ a.passes in (
       record {
         first = s;
-        ok = eqb-true _ 0 checks.1;
+        ok = check_zero _ (eqb-true _ 0 checks.1);
         premises = record {
           size = sized.0;
           long = eqb-true _ _ sized.1;

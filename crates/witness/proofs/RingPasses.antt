@@ -21,7 +21,7 @@ use Rattle.station.specs.Wired.{wired_station}
 use Rattle.station.proofs.WiredLaws.{ring-station}
 use Rattle.plant.specs.Turn.{kind_turn, next_test, makes_test, outcome_at, turn}
 use Rattle.plant.specs.Round.{reset_lines, after_round}
-use Rattle.plant.specs.Entry.{Entry, State, entry_of, tally_top, tally_full, is_test, entry_check, entry_refusal, acted, after}
+use Rattle.plant.specs.Entry.{Entry, State, entry_of, tally_top, tally_full, is_test, entry_check, acted, after}
 use Rattle.plant.proofs.NextTest.{ring-next}
 use Rattle.plant.proofs.TurnHeads.{Heads, turn-heads}
 use Rattle.plant.proofs.RoundLaws.{reset-cells, reset-other}
@@ -31,6 +31,7 @@ use Rattle.detection.proofs.RingPass.{RingTurn}
 use Rattle.detection.proofs.RingTurns.{ring-turns}
 use Rattle.witness.proofs.Moves.{byte_after, finish-bytes, test-bytes}
 use Rattle.witness.proofs.Slow.{Goes, stop, go, goes-append}
+use Rattle.std.specs.Prelude.{Ok}
 
 -- all boards but 0
 abbrev pub others : ℕ → Bool
@@ -119,7 +120,7 @@ module _ (n : ℕ) (size : is_size n ≡ true) (three : 3 ≤ n) where
     at-next : next_distance n t i ≡ q i
     at-next = d.nexts i pos hi free
 
-    pub taken : entry_refusal n s e ≡ 0
+    pub taken : entry_check n s e ≡ Ok tt
     unfolding entry_check
     taken =
         let full : tally_full s.rounds s.tests ≡ false =

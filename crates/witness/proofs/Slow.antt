@@ -10,11 +10,11 @@ use native.Mathlib.Decide.{dec_lt}
 use native.Mathlib.Omega.{arith}
 use Rattle.lists.specs.Sums.{bit}
 use Rattle.table.specs.Table.{suspects, live}
-use Rattle.table.specs.Rules.{not_live, table_refusal}
+use Rattle.table.specs.Rules.{not_live, table_check}
 use Rattle.table.proofs.Accepting.{Accepted, accepted}
 use Rattle.table.specs.declared.wiring.Wiring.{Wiring}
 use Rattle.plant.specs.Turn.{kind_turn}
-use Rattle.plant.specs.Entry.{State, entry_of, entry_refusal, after}
+use Rattle.plant.specs.Entry.{State, entry_of, entry_check, after}
 use Rattle.plant.proofs.RulesKept.{accepted-kept}
 use Rattle.plant.proofs.RunLaws.{accepted-number}
 use Rattle.detection.specs.Runs.{Call, Taken, turn_run, after_runs, taken_all, crashes, is_late, is_on}
@@ -25,11 +25,12 @@ use Rattle.detection.proofs.DetectionClaim.{detection-in-worst-case}
 use Rattle.detection.proofs.OneTurn.{one_left, runs_append, one_passes}
 use Rattle.witness.specs.WorstCase.{WorstCaseAt}
 use Rattle.table.proofs.WiringLaws.{same-itself}
+use Rattle.std.specs.Prelude.{Ok}
 
 -- turns of the boards listed, each taken, from a state to a state
 pub data Goes (w : Wiring) (n : ℕ) : State → List ℕ → State → Type 0 where
   stop : {s : State} → Goes w n s [] s
-  go : {s s' : State} {is : List ℕ} (i : ℕ) → entry_refusal n s (entry_of kind_turn i) ≡ 0 → Goes w n (after w n s (entry_of kind_turn i)) is s'
+  go : {s s' : State} {is : List ℕ} (i : ℕ) → entry_check n s (entry_of kind_turn i) ≡ Ok tt → Goes w n (after w n s (entry_of kind_turn i)) is s'
       → Goes w n s (i ∷ is) s'
 
 -- two such lists, one behind the other
@@ -57,7 +58,7 @@ turns-pass w q turns n s (i ∷ is) =
 -- dead one then
 pub record Slow (w : Wiring) (n : ℕ) : Type 0 where
   pub first : State
-  pub ok : table_refusal w n first.table ≡ 0
+  pub ok : table_check w n first.table ≡ Ok tt
   pub premises : DetectionPremises w n first []
   pub turns : List ℕ
   pub last : State

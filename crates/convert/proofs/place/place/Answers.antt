@@ -1,5 +1,5 @@
 -- A field is passed, or at fault, or goes past the end.
-use Rattle.std.proofs.Common.{arith}
+use Rattle.std.proofs.Common.{Ok, arith}
 use Rattle.convert.proofs.PlaceLaws.{read_none, read_less, read_fault, read_on, read_length}
 use Rattle.convert.proofs.place.place.Goals as goal
 

@@ -1,7 +1,6 @@
 -- The rest of the run, from where it stands, gives what the whole gives, and the table obeys the rules.
-use Rattle.std.proofs.Common.{rules, ◌≡◌, ◌<◌, ◌≤◌, ◌/◌, length, refl, sym, ap, ◌∙◌, subst, arith, length-take, length-drop}
-use Rattle.lists.specs.Refusal.{number_of_result}
-use Rattle.plant.specs.Entry.{Entry, State, state_with, entry_known, entry_refusal}
+use Rattle.std.proofs.Common.{Ok, rules, ◌≡◌, ◌<◌, ◌≤◌, ◌/◌, length, refl, sym, ap, ◌∙◌, subst, arith, length-take, length-drop}
+use Rattle.plant.specs.Entry.{Entry, State, state_with, entry_known, entry_check}
 use Rattle.plant.proofs.RulesKept.{accepted-kept}
 use Rattle.plant.proofs.RunLaws.{accepted-number, line-back, go-taken, go-stopped, go-done, start-facts}
 use Rattle.plant.proofs.run.go_on.Goals as goal
@@ -25,12 +24,12 @@ pub take_entry-ran-requires : goal.take_entry-ran-requires
 take_entry-ran-requires c =
     let l = c.loop-kind in
     let i = l.invariant in
-    let z = rw (c.read.ensures.same_size, c.read.ensures.same_bytes) at (ap number_of_result (sym c.in-Ok.ensures.check)) in
+    let z = rw (c.read.ensures.same_size, c.read.ensures.same_bytes) at (sym c.in-Ok.ensures.check) in
     record {
       same_size = c.new-wired.ensures.same_size ∙ sym i.loan.size;
       table_obeys = rw (c.new-wired.ensures.same_wiring, i.loan.size) (accepted-number _ _ _ i.rules);
       entry_taken =
-          subst (λ (e : Entry). entry_refusal l.lent.n (state_with l.lent.bytes.now l.ran.tally) e ≡ 0) (sym c.in-Ok.ensures.entry) z;
+          subst (λ (e : Entry). entry_check l.lent.n (state_with l.lent.bytes.now l.ran.tally) e ≡ Ok tt) (sym c.in-Ok.ensures.entry) z;
       line_length = simp (length-take, length-drop) (omega (arith, i.twice, i.count, c.loop-kind-test.true, c.as_chunks.ensures.front_len));
     }
 
@@ -45,8 +44,8 @@ loop-kind-preserved c =
     let h : l.kind-index < length c.args.schedule.now / 2 = omega (arith, a.front_len) in
     let s = state_with l.lent.bytes.now l.ran.tally in
     let e = entry_known c.in-Ok.entry in
-    let y = rw (c.read.ensures.same_size, c.read.ensures.same_bytes, i.loan.size) at (ap number_of_result (sym o.check)) in
-    let z = subst (λ (x : Entry). entry_refusal n s x ≡ 0) (sym o.entry) y in
+    let y = rw (c.read.ensures.same_size, c.read.ensures.same_bytes, i.loan.size) at (sym o.check) in
+    let z = subst (λ (x : Entry). entry_check n s x ≡ Ok tt) (sym o.entry) y in
     let p = c.take_entry-ran.ensures in
     let after = rw (c.new-wired.ensures.same_wiring, i.loan.size) at p.state_after in
     let line = rw (c.new-wired.ensures.same_wiring, i.loan.size) at p.line_after in
