@@ -20,4 +20,4 @@ fresh-line n i h =
 
 -- fresh boards, an end in itself
 pub fresh-boards : FreshBoards
-fresh-boards w n i l e = let g = good w n i (fresh_after w n i l) (fresh-is-one w n i l e) in rw e (sym (fresh-line n i g.below))
+fresh-boards w n i l e = let g = good w n i (fresh_after n i l) (fresh-is-one w n i l e) in rw e (sym (fresh-line n i g.below))

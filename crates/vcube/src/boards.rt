@@ -20,8 +20,8 @@ use table::wiring::Wiring;
 #[unsafe(no_mangle)]
 pub extern "C" fn vcube_board_fresh(wiring: usize, n: usize, own: usize, line: &mut [u8]) -> u8
     ensures number { let len = length line.old in
-        result ≡ on_wiring wiring no_such_wiring (λ w. number_of_result (place_check w n own len)) }
-    ensures line_after { line.new ≡ on_wiring wiring line.old (λ w. fresh_after w n own line.old) }
+        result ≡ on_wiring wiring no_such_wiring (λ w. number_of_result (place_check n own len)) }
+    ensures line_after { line.new ≡ on_wiring wiring line.old (λ w. fresh_after n own line.old) }
 {
     let Ok(wiring) = Wiring::try_from(wiring) else {
         return NO_SUCH_WIRING;
