@@ -4,12 +4,11 @@ use mathlib.Core.Path.{◌≡◌, refl, sym, ap, ap₂, ◌∙◌}
 use mathlib.Core.Bool.{Bool, true, false, ◌&&◌, ◌||◌, or-true}
 use mathlib.Core.Logic.{◌≢◌}
 use mathlib.Core.List.{List, ◌++◌}
-use Prim.Native.Nat.{ℕ, ◌+◌, ◌-◌, ◌/◌, ◌%◌, max, ◌≤◌, ◌<◌}
-use native.Mathlib.Decide.{dec_le, dec_lt}
+use Prim.Native.Nat.{ℕ, ◌+◌, ◌-◌, ◌/◌, ◌%◌, ◌≤◌, ◌<◌}
+use native.Mathlib.Decide.{dec_lt}
 use native.Mathlib.Nat.{suc-mul, mul-le-mul_right}
-use native.Mathlib.Numerals.{add-one}
 use native.Mathlib.Omega.{arith}
-use borrow.Author.Tests.{leb-true, eqb-true, eqb-false, le-leb, lt-leb, lt-ltb, eq-eqb, ne_eqb}
+use borrow.Author.Tests.{leb-true, eqb-true, eqb-false, le-leb, lt-ltb, eq-eqb, ne_eqb}
 use lib.Arith.{digits_div, digits_mod}
 use lib.Dec.{leb, eqb}
 use lib.ListN.{length, get_or, take, drop, length-append, length-take, length-drop, length-set, get_or-append}
@@ -20,9 +19,8 @@ use Rattle.table.specs.Table.{head, stride, table_length, line_start, cell, set_
 use Rattle.table.specs.Table.{told_by, told_by_column, told_by_none, not_recorded, rounds_ago, rounds_ago_column, suspects, row_start, row, set_row}
 use Rattle.table.specs.Table.{next_column, tests_column}
 use Rattle.table.specs.Rules.{pass_rule, exit_rule, suspicion_rule, row_rule_by, row_rule, line_rules}
-use Rattle.lists.specs.Search.{every}
 use Rattle.lists.proofs.BoolLaws.{every-same}
-use Rattle.lists.proofs.SearchLaws.{both, every-suc, every-at, every-all}
+use Rattle.lists.proofs.SearchLaws.{both, every-at, every-all}
 use Rattle.table.proofs.Accepting.{Accepted}
 use Rattle.table.specs.declared.wiring.Wiring.{Wiring}
 
@@ -151,17 +149,6 @@ pub row_rule_of_row : (n : ℕ) (t r : List ℕ) (i : ℕ) → i < n → r ≡ r
 unfolding row_rule
 row_rule_of_row n t r i h e l =
     rw (l, e) (ap₂ (λ (a : ℕ) (b : Bool). eqb a 0 && b) (row_at n t i i h) (every-same _ _ n (λ k hk. ap (λ (a : ℕ). leb a 1) (row_at n t i k hk))))
-
--- the greatest byte so far is in its range as long as all bytes passed are
-pub range-next : (r : List ℕ) (k greatest x : ℕ) → leb greatest 1 ≡ every (λ j. leb (get_or r j 0) 1) k → x ≡ max greatest (get_or r k 0)
-    → leb x 1 ≡ every (λ j. leb (get_or r j 0) 1) (k + 1)
-range-next r k greatest x f g =
-    rw (g, add-one, every-suc (λ j. leb (get_or r j 0) 1) k, ← f) (max-leb greatest (get_or r k 0) 1 (dec_le greatest 1) (dec_le (get_or r k 0) 1))
-  where
-    max-leb : (a b c : ℕ) → Dec (a ≤ c) → Dec (b ≤ c) → leb (max a b) c ≡ (leb a c && leb b c)
-    max-leb a b c (yes p) (yes q) = rw (le-leb a c p, le-leb b c q) (le-leb (max a b) c (omega arith))
-    max-leb a b c (yes p) (no q) = rw (le-leb a c p, lt-leb b c (omega arith)) (lt-leb (max a b) c (omega arith))
-    max-leb a b c (no p) q = rw (lt-leb a c (omega arith)) (lt-leb (max a b) c (omega arith))
 
 -- the rules of bytes 1 to 3, of their values, by the end distance
 pub record Pass (end next finished tests : ℕ) : Type 0 where
