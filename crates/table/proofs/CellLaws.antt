@@ -3,7 +3,7 @@
 use mathlib.Core.Path.{◌≡◌, refl, sym, ap, ap₂, ◌∙◌}
 use mathlib.Core.Bool.{Bool, true, false, ◌&&◌, ◌||◌, or-true}
 use mathlib.Core.Logic.{◌≢◌}
-use mathlib.Core.List.{List, ◌++◌}
+use mathlib.Core.List.{List, ◌++◌, append_assoc}
 use Prim.Native.Nat.{ℕ, ◌+◌, ◌-◌, ◌/◌, ◌%◌, ◌≤◌, ◌<◌}
 use native.Mathlib.Decide.{dec_lt}
 use native.Mathlib.Nat.{suc-mul, mul-le-mul_right}
@@ -12,7 +12,7 @@ use borrow.Author.Tests.{leb-true, eqb-true, eqb-false, le-leb, lt-ltb, eq-eqb, 
 use lib.Arith.{digits_div, digits_mod}
 use lib.Dec.{leb, eqb}
 use lib.ListN.{length, get_or, take, drop, length-append, length-take, length-drop, length-set, get_or-append}
-use lib.Seq.{length-take-le, get_or-append-add, get_or-take, get_or-drop, get_or-set_same, get_or-set_other, ext_get_or}
+use lib.Seq.{sets, sets-eq, drop-drop, length-take-le, get_or-append-add, get_or-take, get_or-drop, get_or-set_same, get_or-set_other, ext_get_or}
 use Rattle.table.specs.Wiring.{end_distance}
 use Rattle.table.proofs.WiringLaws.{end-pos}
 use Rattle.table.specs.Table.{head, stride, table_length, line_start, cell, set_cell, status, next_distance, finished, tests_made, status_told}
@@ -57,6 +57,14 @@ row_inside n t i e h = omega (arith, line-inside n i h)
 pub row-part : (n : ℕ) (t : List ℕ) (i a : ℕ) → a ≡ row_start n i → take (a + n - a) (drop a t) ≡ row n t i
 unfolding row
 row-part n t i a e = let w : a + n - a ≡ n = omega arith in rw (w, e)
+
+-- a line in place of line i, as the code puts it there
+pub line-written : (n : ℕ) (t l : List ℕ) (i a m : ℕ) → a ≡ line_start n i → length t ≡ table_length n → i < n → length l ≡ stride n → m ≡ stride n
+    → take a t ++ (l ++ drop m (drop a t)) ≡ sets t (line_start n i) l
+line-written n t l i a m e s h long w =
+    let fits : a + length l ≤ length t = omega (arith, line-inside n i h) in
+    let same : m ≡ length l = omega arith in
+    rw (← e, same, drop-drop (length l) a t, sets-eq l t a fits, append_assoc)
 
 pub cell_same : (n : ℕ) (t : List ℕ) (i c v : ℕ) → length t ≡ table_length n → i < n → c < stride n → cell n (set_cell n t i c v) i c ≡ v
 unfolding cell set_cell
