@@ -48,7 +48,7 @@ fn put_fresh_line(table: &mut TableMut, i: Station)
     write_line(table.n, &mut table.bytes[a..e]);
 }
 
-// Fills a line of a table of n stations. By `fill`, and not byte by byte by `fresh_byte`, which divides.
+// Fills a line of a table of n stations.
 pub fn write_line(n: u8, line: &mut [u8])
     requires { length line.old ≡ stride n }
     ensures { line.new ≡ list_of (fresh_byte n) (stride n) }
@@ -56,19 +56,4 @@ pub fn write_line(n: u8, line: &mut [u8])
     line.fill(0);
     line[cells::NEXT as usize] = 1;
     line[cells::TOLD_BY as usize] = cells::TOLD_BY_NONE;
-}
-
-// Byte p of a fresh line.
-#[tactic(auto, unfolding(crate::specs::Fresh::fresh_byte))]
-pub fn fresh_byte(n: u8, p: usize) -> u8
-    ensures { result ≡ fresh_byte n p }
-{
-    let column = p % (n as usize + cells::HEAD as usize);
-    if column == cells::NEXT as usize {
-        return 1;
-    }
-    if column == cells::TOLD_BY as usize {
-        return cells::TOLD_BY_NONE;
-    }
-    0
 }
