@@ -37,7 +37,7 @@ abbrev pub mends : Wiring → ℕ → List ℕ → List Change
 mends w n t = changes t (mended w n t)
 
 -- Rule Mend, its refusals: 1, 2, then 23: the buffer for the report has fewer than 4n(n + 6) bytes
-unfoldable pub mend_check : ℕ → ℕ → ℕ → Check
+abbrev pub mend_check : ℕ → ℕ → ℕ → Check
 mend_check n len room = shape_check n len and ensure (nat_le (4 * table_length n) room) ReportTooShort
 
 -- Rule Mend: the number of changes
