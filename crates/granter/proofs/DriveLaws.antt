@@ -170,7 +170,8 @@ turned-is w n q s i e f = rw (f, e)
 -- a drive as the code finds it: q is where it stands after k grants
 module _ (w : Wiring) (n : ℕ) (p : Stand) (k : ℕ) (q : Stand) (at-k : q ≡ after_grants w n p k) (d : Driving w n p k) where
   -- a tally is full: it stops here
-  pub full-stop : tally_full q.state.rounds q.state.tests ≡ true → (drive_outcome (Some TallyFull) q.state q.last k ≡ outcome_after w n p k) × Stopped w n p k
+  pub full-stop : tally_full q.state.rounds q.state.tests ≡ true
+      → (drive_outcome (Some TallyFull) q.state q.last k ≡ outcome_after w n p k) × Stopped w n p k
   unfolding outcome_after
   full-stop full = (rw (at-k, d.open-still), stopped-full w n p k d (rw at-k at full))
 

@@ -72,7 +72,8 @@ drive_outcome_with d t = drive_outcome d.stopped (state_with t d.tally) d.last d
 
 -- the outcome after k grants: refusal 7 unless the drive has ended. The turns that were made stay
 unfoldable pub outcome_after : Wiring → ℕ → Stand → ℕ → DriveResult
-outcome_after w n p k = drive_outcome (if ended_after w n p k then None else Some TallyFull) (after_grants w n p k).state (after_grants w n p k).last k
+outcome_after w n p k =
+    drive_outcome (if ended_after w n p k then None else Some TallyFull) (after_grants w n p k).state (after_grants w n p k).last k
 
 -- Rule Drive call: the drive, for all inputs. Refused by 1 to 4, 16 or 17 it gives back the tally and last number handed in, and 0 grants
 unfoldable pub drive : Wiring → ℕ → State → ℕ → DriveResult

@@ -1,5 +1,6 @@
 // What an input holds: lines, the size, the entries. The call is `parse`; `read_size` and `read_station` read the numbers of arguments too.
-ghost use Rattle.std.specs.Prelude.{◌≡◌, [], ◌∷◌, ◌++◌, ◌+◌, ◌*◌, ◌≤◌, ◌<◌, length, take, drop, None, Some, IfSome, ◌-◌, option_map, if◌then◌else◌, nat_lt};
+ghost use Rattle.std.specs.Prelude.{◌≡◌, [], ◌∷◌, ◌++◌, ◌+◌, ◌-◌, ◌*◌, ◌≤◌, ◌<◌, length, take, drop};
+ghost use Rattle.std.specs.Prelude.{None, Some, IfSome, option_map, if◌then◌else◌, nat_lt};
 ghost use Rattle.std.proofs.lemmas.List.Edits.{sets};
 ghost use Rattle.plant.specs.Kind.{kind_byte};
 ghost use Rattle.std.specs.List.{slice_split};
