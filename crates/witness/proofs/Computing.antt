@@ -3,7 +3,7 @@
 use Rattle.lists.specs.Sums.{sum_below}
 use Rattle.table.specs.Properties.{at_start, live_count, none_suspected}
 use Rattle.plant.proofs.WholeRun.{whole_run}
-use Rattle.detection.specs.Runs.{after_runs, taken_from, taken_in, taken_all}
+use Rattle.detection.specs.Runs.{after_runs, taken_from, taken_by, taken_all}
 use Rattle.detection.specs.Rounds.{any_taken, all_taken, count_taken, closes, cut}
 use Rattle.detection.specs.Claim.{group_without_live, pairs_without_live}
 
