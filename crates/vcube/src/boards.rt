@@ -107,7 +107,7 @@ pub extern "C" fn vcube_board_replied(
 }
 
 // Board, not replied: the turn without a reply; its outcome into outcome, 0 where it is refused.
-#[tactic(auto, using(crate::proofs::OnWiring::on_each, crate::proofs::NarrowBoard::not_replied_narrow, crate::proofs::NarrowBoard::not_replied_after_narrow))]
+#[tactic(auto, using(crate::proofs::OnWiring::on_each, crate::proofs::NarrowBoard::not_replied_laws))]
 #[unsafe(no_mangle)]
 pub extern "C" fn vcube_board_not_replied(
     wiring: usize,
@@ -154,7 +154,7 @@ pub extern "C" fn vcube_board_told(
 }
 
 // Board, exchanged: the board joins the row that another sent into its own.
-#[tactic(auto, using(crate::proofs::OnWiring::on_each, crate::proofs::NarrowBoard::exchanged_narrow, crate::proofs::NarrowBoard::exchanged_after_narrow))]
+#[tactic(auto, using(crate::proofs::OnWiring::on_each, crate::proofs::NarrowBoard::exchanged_laws))]
 #[unsafe(no_mangle)]
 pub extern "C" fn vcube_board_exchanged(
     wiring: usize,
