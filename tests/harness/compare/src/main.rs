@@ -14,6 +14,7 @@ mod printed;
 mod record;
 mod replayer;
 mod smallest;
+mod turned;
 
 use std::collections::BTreeMap;
 use std::fs::File;
@@ -52,6 +53,7 @@ fn work(options: &Options) -> Result<String, String> {
         Task::With(programs) => compare(options, programs),
         Task::Answer(path) => answer_again(path),
         Task::Boards(programs) => boards::check(options, programs),
+        Task::Turned(program, inputs) => turned::check(inputs, program),
     }
 }
 

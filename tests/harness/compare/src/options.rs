@@ -12,7 +12,8 @@ const USAGE: &str =
        compare [--seed S] [--long] --only K
        compare [--seed S] --altered PROGRAM ..
        compare --answer FILE
-       compare [--seed S] [--calls N | --only K] --boards [PROGRAM ..]";
+       compare [--seed S] [--calls N | --only K] --boards [PROGRAM ..]
+       compare --turned PROGRAM INPUT ..";
 
 const DEFAULT_SEED: u64 = 1;
 const DEFAULT_CALLS: u64 = 900_000;
@@ -30,6 +31,8 @@ pub enum Task {
     Answer(PathBuf),
     /// Lets simulator and programs run schedules, by the numbers of calls, on the table and on boards.
     Boards(Vec<PathBuf>),
+    /// Lets simulator and program load the saved plants of these inputs with each bit turned.
+    Turned(PathBuf, Vec<PathBuf>),
 }
 
 pub struct Options {
@@ -66,12 +69,16 @@ impl Options {
                 "--with" => task = Task::With(words.by_ref().map(PathBuf::from).collect()),
                 "--altered" => task = Task::Altered(words.by_ref().map(PathBuf::from).collect()),
                 "--boards" => task = Task::Boards(words.by_ref().map(PathBuf::from).collect()),
+                "--turned" => {
+                    let program = words.next()?.into();
+                    task = Task::Turned(program, words.by_ref().map(PathBuf::from).collect());
+                }
                 _ => return None,
             }
         }
         let is_complete = match &task {
             Task::Print => numbers.start() == numbers.end(),
-            Task::With(programs) | Task::Altered(programs) => !programs.is_empty(),
+            Task::With(paths) | Task::Altered(paths) | Task::Turned(_, paths) => !paths.is_empty(),
             _ => true,
         };
         is_complete.then_some(Options {
