@@ -215,7 +215,7 @@ layers: ## docs/layers.svg, from crates.txt
 # --- The tests, in steps. ./test runs them, and says what each is; one by itself is make test-words.
 
 steps := shellcheck layers pages words format rust-format archive mutants compare portable programs page c plant rust-tests linked-tests clippy \
-    package kept-page rt-ci
+    package kept-page reliability rt-ci
 .PHONY: list-steps before-rt-ci test $(steps:%=test-%)
 
 test: ## all tests: ./test, which also runs some of them
@@ -276,6 +276,8 @@ test-linked-tests: archive
 	    cargo check --package=vcube --lib --no-default-features --offline --locked --quiet)
 test-clippy: archive
 	@$(call of_cargo,clippy,cargo clippy --workspace --all-targets --offline --locked --quiet -- -D warnings)
+test-reliability: archive
+	@$(call step,tests/reliability/run)
 test-kept-page: page
 	@$(call step,cmp target/vcube.html docs/vcube.html || { echo 'docs/vcube.html is not what ./page makes: make kept-page makes it anew'; false; })
 # Its last line is the gate's, and stays the last.
