@@ -27,7 +27,8 @@ pub fn check(inputs: &[PathBuf], program: &Path) -> Result<String, String> {
     let mut replayer = Replayer::start(program)?;
     let mut count = Count::default();
     for input in inputs {
-        let text = fs::read(input).map_err(|error| format!("compare: {}: {error}", input.display()))?;
+        let text =
+            fs::read(input).map_err(|error| format!("compare: {}: {error}", input.display()))?;
         let ends = (1..=text.len()).filter(|end| text[end - 1] == b'\n');
         for end in ends {
             let saved = saved_after_run(&text[..end])?;
@@ -57,7 +58,9 @@ fn record_of(saved: &[u8], count: &mut Count) -> Result<Vec<u8>, String> {
         count.files += 1;
         count.refused += usize::from(answer.number != 0);
         if answer.number == 0 && saved_again(&answer) != call.arguments[0] {
-            return Err(format!("compare: bit {bit}: what is loaded is not what the file says"));
+            return Err(format!(
+                "compare: bit {bit}: what is loaded is not what the file says"
+            ));
         }
         record::write(&call, &answer, &mut text);
     }
