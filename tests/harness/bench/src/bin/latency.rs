@@ -26,7 +26,7 @@ const SEED: u64 = 1;
 /// The powers of two, and three sizes between them.
 const SIZES: [usize; 9] = [2, 4, 8, 11, 16, 19, 32, 48, 64];
 
-/// The orders of turns, the first one for the main table.
+/// The orders of turns, the first one for a table of its own.
 const ORDERS: [Order; 6] = [
     Order::Random,
     Order::Passes,
@@ -167,7 +167,7 @@ fn work(quick: bool) -> Result<(), String> {
 }
 
 /// The page with these rows in its tables, each behind a head of two lines.
-fn with_rows(page: &str, rows: [String; 6]) -> Result<String, String> {
+fn with_rows(page: &str, rows: [String; 5]) -> Result<String, String> {
     let (mut text, mut rows, mut row) = (String::new(), rows.into_iter(), 0);
     for line in page.lines() {
         row = if line.starts_with('|') { row + 1 } else { 0 };
@@ -332,22 +332,18 @@ fn rows(
     slowest: &[Vec<Slowest>; 2],
     grants: &[Grants],
     one_dead: &[Option<[OneDead; 2]>],
-) -> [String; 6] {
+) -> [String; 5] {
     [
         results.iter().map(row_of_size).collect(),
         slowest_rows(&slowest[0]),
         results.iter().map(row_of_orders).collect(),
-        results
-            .iter()
-            .map(|row| row_of_wirings(row, slowest))
-            .collect(),
         grants.iter().map(row_of_grants).collect(),
         rows_of_one_dead(one_dead),
     ]
 }
 
 fn row_of_size(row: &Results) -> String {
-    let (n, d, worst) = (row.n, dimension(row.n), worst_case(Wiring::Cube, row.n));
+    let (n, worst) = (row.n, worst_case(Wiring::Cube, row.n));
     let Summary {
         figures,
         percentile,
@@ -359,7 +355,9 @@ fn row_of_size(row: &Results) -> String {
         ..
     } = *figures;
     let (mean, variance) = (decimal(figures.mean), decimal(figures.variance));
-    format!("| {n} | {d} | {count} | {least} | {mean} | {variance} | {percentile} | {greatest} | {worst} |\n")
+    format!(
+        "| {n} | {count} | {least} | {mean} | {variance} | {percentile} | {greatest} | {worst} |\n"
+    )
 }
 
 /// A row for neighbouring sizes with the same d and the same rounds.
@@ -368,8 +366,7 @@ fn slowest_rows(slowest: &[Slowest]) -> String {
     let row = |plants: &[Slowest]| {
         let sizes = range(plants.iter().map(|plant| plant.n));
         let live = range(plants.iter().map(|plant| plant.n - plant.dead));
-        let ((d, rounds), worst) = (key(&plants[0]), worst_case(Wiring::Cube, plants[0].n));
-        format!("| {sizes} | {live} | {rounds} | {d} | {worst} |\n")
+        format!("| {sizes} | {live} | {} |\n", plants[0].rounds)
     };
     let alike = slowest.chunk_by(|one, next| key(one) == key(next));
     alike.map(row).collect()
@@ -384,22 +381,11 @@ fn range(numbers: impl Iterator<Item = usize>) -> String {
     }
 }
 
+/// The orders behind the first one, then the ring.
 fn row_of_orders(row: &Results) -> String {
-    let cells = row.by_order.iter().map(Summary::mean_and_greatest);
-    let cells = cells.collect::<Vec<_>>().join(" | ");
-    format!("| {} | {cells} |\n", row.n)
-}
-
-fn row_of_wirings(row: &Results, [on_cube, on_ring]: &[Vec<Slowest>; 2]) -> String {
-    let n = row.n;
-    let cells = |summary: &Summary, slowest, wiring| {
-        let mean = summary.mean_and_greatest();
-        let slowest = or_none(rounds_of(slowest, n), "–");
-        format!("{mean} | {slowest} | {}", worst_case(wiring, n))
-    };
-    let cube = cells(&row.by_order[0], on_cube, Wiring::Cube);
-    let ring = cells(&row.on_ring, on_ring, Wiring::Ring);
-    format!("| {n} | {cube} | {ring} |\n")
+    let others = row.by_order[1..].iter().chain([&row.on_ring]);
+    let cells: Vec<String> = others.map(Summary::mean_and_greatest).collect();
+    format!("| {} | {} |\n", row.n, cells.join(" | "))
 }
 
 fn row_of_grants(row: &Grants) -> String {
@@ -413,12 +399,11 @@ fn row_of_grants(row: &Grants) -> String {
     format!("| {wiring} | {n} | {searched} | {proved} | {trials} | {greatest} | {grants} of {bound} |\n")
 }
 
-/// The sizes by columns, each with its figures.
+/// The sizes by columns, each with its figures on the cube.
 fn rows_of_one_dead(one_dead: &[Option<[OneDead; 2]>]) -> String {
-    let figures = |most: &OneDead| format!("{} | {}", most.grants, most.rounds);
     let cells = |(n, both): (usize, &Option<[OneDead; 2]>)| match both {
-        Some([cube, ring]) => format!("| {n} | {} | {} ", figures(cube), figures(ring)),
-        None => format!("| {n} | – | – | – | – "),
+        Some([cube, _]) => format!("| {n} | {} | {} ", cube.grants, cube.rounds),
+        None => format!("| {n} | – | – "),
     };
     let cells: Vec<String> = groups::SIZES.zip(one_dead).map(cells).collect();
     let height = cells.len().div_ceil(COLUMNS);
