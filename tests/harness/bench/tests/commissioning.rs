@@ -107,15 +107,10 @@ fn one_dead_board_under_the_bus_master() {
         let grants = sizes
             .iter()
             .map(|n| match vcube::one_dead(wiring, *n).expect("a size") {
-                Some(most) => (most.grants as u32, most.grants.to_string()),
-                None => (tried(*n), format!("*{}*", tried(*n))),
+                Some(most) => most.grants.to_string(),
+                None => format!("*{}*", tried(*n)),
             });
-        let (grants, shown): (Vec<u32>, Vec<String>) = grants.unzip();
-        assert_eq!(of("bus master"), shown);
-        // Of 5 ms each, rounded up.
-        let hundredths = grants.iter().map(|grants| grants.div_ceil(2));
-        let seconds = hundredths.map(|h| format!("{}.{:02}", h / 100, h % 100));
-        assert_eq!(of("seconds"), seconds.collect::<Vec<String>>());
+        assert_eq!(of("bus master"), grants.collect::<Vec<String>>());
         let any_order = sizes
             .iter()
             .map(|n| bound_of_first_crash(wiring, *n) as u32);
