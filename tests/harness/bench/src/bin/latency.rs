@@ -348,16 +348,9 @@ fn row_of_size(row: &Results) -> String {
         figures,
         percentile,
     } = &row.by_order[0];
-    let Figures {
-        count,
-        least,
-        greatest,
-        ..
-    } = *figures;
     let (mean, variance) = (decimal(figures.mean), decimal(figures.variance));
-    format!(
-        "| {n} | {count} | {least} | {mean} | {variance} | {percentile} | {greatest} | {worst} |\n"
-    )
+    let greatest = figures.greatest;
+    format!("| {n} | {mean} | {variance} | {percentile} | {greatest} | {worst} |\n")
 }
 
 /// A row for neighbouring sizes with the same d and the same rounds.
@@ -394,9 +387,9 @@ fn row_of_grants(row: &Grants) -> String {
         format!("{} | {}", all.len(), grants::greatest(all).grants)
     });
     let proved = grants::bound_of_first_crash(wiring, n);
-    let (trials, greatest) = (row.random.len(), grants::greatest(&row.random).grants);
+    let greatest = grants::greatest(&row.random).grants;
     let Taken { grants, bound } = grants::nearest(&row.random);
-    format!("| {wiring} | {n} | {searched} | {proved} | {trials} | {greatest} | {grants} of {bound} |\n")
+    format!("| {wiring} | {n} | {searched} | {proved} | {greatest} | {grants} of {bound} |\n")
 }
 
 /// The sizes by columns, each with its figures on the cube.
