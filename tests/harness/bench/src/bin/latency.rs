@@ -105,7 +105,6 @@ struct Grants {
 /// A slowest plant and the rounds that it takes.
 struct Slowest {
     n: usize,
-    dead: usize,
     rounds: u32,
 }
 
@@ -116,11 +115,8 @@ fn run_slowest(wiring: Wiring) -> Result<Vec<Slowest>, String> {
         Wiring::Ring => slowest::ring_plants().collect(),
     };
     let run = |plant: &slowest::Plant| {
-        rounds_of_slowest(wiring, plant).map(|rounds| Slowest {
-            n: plant.n,
-            dead: plant.dead,
-            rounds,
-        })
+        let n = plant.n;
+        rounds_of_slowest(wiring, plant).map(|rounds| Slowest { n, rounds })
     };
     plants.iter().map(run).collect()
 }
@@ -157,7 +153,7 @@ fn work(quick: bool) -> Result<(), String> {
     let one_dead = try_one_dead(quick)?;
     let failed = |error| format!("{PAGE}: {error}");
     let page = fs::read_to_string(PAGE).map_err(failed)?;
-    let page = with_rows(&page, rows(&results, &slowest, &grants, &one_dead))?;
+    let page = with_rows(&page, rows(&results, &grants, &one_dead))?;
     print!("{page}");
     if quick {
         return Ok(());
@@ -167,7 +163,7 @@ fn work(quick: bool) -> Result<(), String> {
 }
 
 /// The page with these rows in its tables, each behind a head of two lines.
-fn with_rows(page: &str, rows: [String; 5]) -> Result<String, String> {
+fn with_rows(page: &str, rows: [String; 4]) -> Result<String, String> {
     let (mut text, mut rows, mut row) = (String::new(), rows.into_iter(), 0);
     for line in page.lines() {
         row = if line.starts_with('|') { row + 1 } else { 0 };
@@ -327,15 +323,9 @@ fn draw(path: &str, name: &str, lines: String, script: &str) -> Result<(), Strin
 }
 
 /// The rows of each table.
-fn rows(
-    results: &[Results],
-    slowest: &[Vec<Slowest>; 2],
-    grants: &[Grants],
-    one_dead: &[Option<[OneDead; 2]>],
-) -> [String; 5] {
+fn rows(results: &[Results], grants: &[Grants], one_dead: &[Option<[OneDead; 2]>]) -> [String; 4] {
     [
         results.iter().map(row_of_size).collect(),
-        slowest_rows(&slowest[0]),
         results.iter().map(row_of_orders).collect(),
         grants.iter().map(row_of_grants).collect(),
         rows_of_one_dead(one_dead),
@@ -351,27 +341,6 @@ fn row_of_size(row: &Results) -> String {
     let (mean, variance) = (decimal(figures.mean), decimal(figures.variance));
     let greatest = figures.greatest;
     format!("| {n} | {mean} | {variance} | {percentile} | {greatest} | {worst} |\n")
-}
-
-/// A row for neighbouring sizes with the same d and the same rounds.
-fn slowest_rows(slowest: &[Slowest]) -> String {
-    let key = |plant: &Slowest| (dimension(plant.n), plant.rounds);
-    let row = |plants: &[Slowest]| {
-        let sizes = range(plants.iter().map(|plant| plant.n));
-        let live = range(plants.iter().map(|plant| plant.n - plant.dead));
-        format!("| {sizes} | {live} | {} |\n", plants[0].rounds)
-    };
-    let alike = slowest.chunk_by(|one, next| key(one) == key(next));
-    alike.map(row).collect()
-}
-
-/// The least and the greatest of a row's numbers.
-fn range(numbers: impl Iterator<Item = usize>) -> String {
-    let wider = |(least, greatest): (usize, usize), k| (least.min(k), greatest.max(k));
-    match numbers.fold((usize::MAX, 0), wider) {
-        (least, greatest) if least == greatest => least.to_string(),
-        (least, greatest) => format!("{least} to {greatest}"),
-    }
 }
 
 /// The orders behind the first one, then the ring.
