@@ -106,7 +106,7 @@ fn one_dead_board_under_the_bus_master() {
         .into_iter()
         .map(|n| number(n) as usize)
         .collect();
-    assert_eq!(sizes.len(), 12);
+    assert_eq!(sizes.len(), 6);
     for (wiring, name) in WIRINGS {
         let of = |kind: &str| row(&format!("{name}, {kind}"));
         let grants = sizes
