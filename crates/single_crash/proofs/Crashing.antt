@@ -2,11 +2,10 @@
 -- Assumes nothing.
 use mathlib.Core.Path.{◌≡◌, refl, sym, ◌∙◌}
 use mathlib.Core.Logic.{◌≢◌, by_cases}
-use mathlib.Core.Bool.{Bool, true, false, not}
+use mathlib.Core.Bool.{Bool, true, false, not, true≢false}
 use mathlib.Core.List.{List}
 use Prim.Native.Nat.{ℕ, ◌+◌, ◌≤◌, ◌<◌}
 use native.Mathlib.Decide.{ℕ_discrete}
-use native.Mathlib.Numerals.{add-one}
 use native.Mathlib.Omega.{arith}
 use borrow.Author.Tests.{eq-eqb, ne_eqb}
 use lib.Dec.{eqb}
@@ -23,20 +22,19 @@ use Rattle.table.proofs.SizeLaws.{size-bounds}
 use Rattle.table.proofs.CellLaws.{cell_same, cell_other, row-length, row_at, accepted-line}
 use Rattle.table.specs.declared.wiring.Wiring.{Wiring}
 use Rattle.plant.specs.Turn.{crash}
-use Rattle.plant.specs.Round.{reset_lines, after_round}
-use Rattle.plant.specs.Entry.{state_of, acted, after}
-use Rattle.plant.proofs.RoundLaws.{Reset, reset-cells}
+use Rattle.plant.specs.Round.{after_round}
+use Rattle.plant.specs.Entry.{acted, after}
+use Rattle.plant.proofs.RoundLaws.{Reset}
 use Rattle.plant.proofs.StepLines.{leave-lines}
 use Rattle.granter.specs.Grant.{waits, following}
-use Rattle.granter.specs.Drive.{Stand, stand_at}
+use Rattle.granter.specs.Drive.{Stand}
 use Rattle.granter.proofs.GrantLaws.{grantable}
 use Rattle.detection.proofs.TurnEffect.{Plain, Exact}
-use Rattle.detection.proofs.RoundKnowledge.{reset-rows}
 use Rattle.detection.proofs.DetectionClaim.{first_round}
 use Rattle.single_crash.specs.Sweeps.{turns_made}
 use Rattle.single_crash.specs.Setting.{Sound, crash_at, KnownDead}
 use Rattle.single_crash.proofs.Sweeps.{sweep-fewer}
-use Rattle.single_crash.proofs.Running.{Crew, Running, Closed, WentOn, begin}
+use Rattle.single_crash.proofs.Running.{Crew, Running, Closed, WentOn, begin, closing}
 
 -- every board, and every board but b
 abbrev pub everyone : ℕ → Bool
@@ -44,6 +42,15 @@ everyone i = true
 
 abbrev pub all_but : ℕ → ℕ → Bool
 all_but b i = not (eqb i b)
+
+pub other-lives : (b i : ℕ) → i ≢ b → all_but b i ≡ true
+other-lives b i d = rw (ne_eqb i b d) refl
+
+pub but-dead : (b : ℕ) → all_but b b ≡ false
+but-dead b = rw (eq-eqb b b refl) refl
+
+pub but-apart : (b i : ℕ) → all_but b i ≡ true → i ≢ b
+but-apart b i l e = true≢false (sym l ∙ rw e (but-dead b))
 
 pub everyone-crew : (w : Wiring) (n : ℕ) → is_size n ≡ true → Crew w n everyone
 everyone-crew w n size =
@@ -77,21 +84,21 @@ others-crew w n b size three = record {
         (λ f. at i 0 (omega arith) d f))
 
 -- a sound plant
-pub sound-fresh : (w : Wiring) (n : ℕ) (p : Stand) → Sound w n p → (i : ℕ) → i < n → Reset n p.state.table i
-sound-fresh w n p given =
+pub sound-fresh : {w : Wiring} {n : ℕ} {p : Stand} → Sound w n p → (i : ℕ) → i < n → Reset n p.state.table i
+sound-fresh {w = w} {n = n} {p = p} given =
     (first_round w n p.state.table (grantable w n p.state.table p.last given.granted).ok given.start (λ i j h k a c. given.nobody i j h k)).fresh
 
-pub sound-run : (w : Wiring) (n : ℕ) (p : Stand) → Sound w n p → Running w n everyone (following p.last) p
-sound-run w n p given =
+pub sound-run : {w : Wiring} {n : ℕ} {p : Stand} → Sound w n p → Running w n everyone (following p.last) p
+sound-run {w = w} {n = n} {p = p} given =
     let g = grantable w n p.state.table p.last given.granted in
-    begin w n everyone (everyone-crew w n g.ok.size) p (record {
+    begin (everyone-crew w n g.ok.size) p (record {
       lines = (g.ok.long, accepted-line w n p.state.table g.ok);
       lives = given.all_live;
       accurate = λ i j h k a c. given.nobody i j h k;
-    }) (sound-fresh w n p given) g.last_fits
+    }) (sound-fresh given) g.last_fits
 
 -- b crashes in a plant whose boards are all live, and in which nobody suspects anybody
-module _ (w : Wiring) (n b begins : ℕ) (q : Stand) (crew : Crew w n (all_but b)) (hb : b < n) (r : Running w n everyone begins q) where
+module _ {w : Wiring} {n : ℕ} (b : ℕ) {begins : ℕ} {q : Stand} (crew : Crew w n (all_but b)) (hb : b < n) (r : Running w n everyone begins q) where
   abbrev t : List ℕ
   t = q.state.table
 
@@ -135,16 +142,7 @@ module _ (w : Wiring) (n b begins : ℕ) (q : Stand) (crew : Crew w n (all_but b
 
   pub crash-closes : round_over n t' ≡ true → Closed w n (all_but b) t' q.last q q'
   unfolding crash_at after acted after_round
-  crash-closes over =
-      let fresh = reset-cells n t' crash-plain.lines.0 in
-      let rows = reset-rows w n (all_but b) t' crash-plain in
-      rw over (record {
-        table = refl;
-        rounds = add-one q.state.rounds;
-        fresh = fresh;
-        grown = rows.1;
-        running = begin w n (all_but b) crew (stand_at (state_of (reset_lines n t') _ _) q.last) rows.0 fresh r.last_fits;
-      })
+  crash-closes over = rw over (closing crew t' crash-plain q _ q.last r.last_fits)
 
   pub crash-goes_on : round_over n t' ≡ false → WentOn w n (all_but b) t' begins q q'
   unfolding crash_at after acted after_round
@@ -153,6 +151,7 @@ module _ (w : Wiring) (n b begins : ℕ) (q : Stand) (crew : Crew w n (all_but b
         table = refl;
         rounds = refl;
         running = record {
+          crew = crew;
           plain = crash-plain;
           unclosed = unclosed;
           last_fits = r.last_fits;
