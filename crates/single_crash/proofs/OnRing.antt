@@ -12,7 +12,7 @@ use Rattle.table.specs.Table.{finished_column, next_distance, finished, tests_ma
 use Rattle.table.specs.Rules.{round_over}
 use Rattle.table.proofs.SizeLaws.{size-bounds}
 use Rattle.table.specs.declared.wiring.Wiring.TheVariants.{Ring}
-use Rattle.plant.specs.Turn.{makes_test, turn}
+use Rattle.plant.specs.Turn.{makes_test}
 use Rattle.plant.proofs.RoundLaws.{Reset}
 use Rattle.granter.specs.Drive.{Stand, after_grants}
 use Rattle.detection.proofs.TurnEffect.{Row}

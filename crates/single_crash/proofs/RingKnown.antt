@@ -23,7 +23,6 @@ use Rattle.single_crash.specs.Ring.{RingInGrants, RingInRounds}
 use Rattle.single_crash.proofs.SweepLaw.{grant_of}
 use Rattle.single_crash.proofs.Running.{Running, closes, goes_on, stays_known, runs_on}
 use Rattle.single_crash.proofs.Crashing.{all_but, sound-fresh, sound-run, crash-closes, crash-goes_on, crash-turns, known-dead}
-use Rattle.single_crash.proofs.Around as around
 use Rattle.single_crash.proofs.OnRing.{left_of, one, one-less, Before, before-fresh, before-all}
 use Rattle.single_crash.proofs.RingStages.{Board, Waiting, Finding, Spread, circle, ahead, crew, two_before, left-most, left-made, finding-fresh}
 use Rattle.single_crash.proofs.RingStages.{waiting-on}

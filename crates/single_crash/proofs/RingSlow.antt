@@ -25,7 +25,6 @@ use Rattle.single_crash.proofs.Running.{Running, chosen, is_live, going, heads, 
 use Rattle.single_crash.proofs.Passes.{made-most}
 use Rattle.single_crash.proofs.Around.{BeginsAt, board-below, begins-fits, place-of, place-zero, place-next, before-below, before-next}
 use Rattle.single_crash.proofs.Around.{before-second, both-apart, other-next, next-one, begins-at}
-use Rattle.single_crash.proofs.Around as around
 use Rattle.single_crash.proofs.OnRing.{left_of, ring-turn, counts-at, one, one-less, none-left}
 use Rattle.single_crash.proofs.RingStages.{Board, Waiting, Finding, Spread, circle, ahead, two_before, c-below, c-lives}
 use Rattle.single_crash.proofs.Crashing.{other-lives, but-dead, but-apart}
