@@ -1,6 +1,6 @@
 -- One board crashes in a plant whose boards are all live: where the drive stands then, and when the board is known.
 -- Assumes nothing.
-use mathlib.Core.Path.{◌≡◌, refl, sym, ◌∙◌}
+use mathlib.Core.Path.{◌≡◌, refl, sym, ap, ◌∙◌}
 use mathlib.Core.Logic.{◌≢◌, by_cases}
 use mathlib.Core.Bool.{Bool, true, false, not, true≢false}
 use mathlib.Core.List.{List}
@@ -9,9 +9,11 @@ use native.Mathlib.Decide.{ℕ_discrete}
 use native.Mathlib.Omega.{arith}
 use borrow.Author.Tests.{eq-eqb, ne_eqb}
 use lib.Dec.{eqb}
+use lib.ListN.{get_or}
 use lib.Seq.{ext_get_or}
 use Rattle.lists.specs.Sums.{bit}
 use Rattle.lists.proofs.BoolLaws.{by_bool}
+use Rattle.lists.specs.Search.{list_of}
 use Rattle.lists.proofs.SearchLaws.{both, list_of-length, list_of-at}
 use Rattle.table.specs.Sizes.{is_size}
 use Rattle.table.specs.Table.{head, stride, cell, status_column, finished_column, tests_column, finished, suspects, live, row}
@@ -30,6 +32,7 @@ use Rattle.granter.specs.Grant.{waits, following}
 use Rattle.granter.specs.Drive.{Stand}
 use Rattle.granter.proofs.GrantLaws.{grantable}
 use Rattle.detection.proofs.TurnEffect.{Plain, Exact}
+use Rattle.detection.proofs.RoundKnowledge.{all-finished}
 use Rattle.detection.proofs.DetectionClaim.{first_round}
 use Rattle.single_crash.specs.Sweeps.{turns_made}
 use Rattle.single_crash.specs.Setting.{Sound, crash_at, KnownDead}
@@ -167,6 +170,15 @@ module _ {w : Wiring} {n : ℕ} (b : ℕ) {begins : ℕ} {q : Stand} (crew : Cre
   crash-runs =
       by_bool (round_over n t') (λ over. (_, (crash-closes over).running)) (λ unclosed. (_, (crash-goes_on unclosed).running))
 
+  -- where another board has not finished the round does not close with it
+  pub stays-open : (i : ℕ) → i < n → i ≢ b → finished n t i ≢ 1 → round_over n t' ≡ false
+  stays-open i h d f =
+      by_bool (round_over n t')
+      (λ over.
+      let ended = all-finished w n (all_but b) t' crash-plain over i h (other-lives b i d) in
+      absurd (f (sym (crash-same i finished_column (omega arith) (omega arith)) ∙ ended)))
+      (λ unclosed. unclosed)
+
   -- it makes no turn
   pub crash-turns : round_over n t' ≡ false → (i : ℕ) → turns_made n q'.state.table i ≡ turns_made n t i
   crash-turns unclosed i =
@@ -188,3 +200,14 @@ known-dead w n b t p exact = record {
       ext_get_or 0 (row n t i) _ (long ∙ sym (list_of-length others n))
       (λ k l. let g : k < n = omega arith in row_at n t i k g ∙ (byte k g ∙ sym (list_of-at others n k g)));
 }
+
+-- and where one does not suspect b, b is not
+pub not-known : (n i b : ℕ) (t : List ℕ) → i < n → b < n → i ≢ b → suspects n t i b ≡ 0 → ¬ (KnownDead n t b)
+unfolding exact_row
+not-known n i b t hi hb apart unaware known =
+    let exact : ℕ → ℕ = λ j. bit (not_live n t j) in
+    let mine : live n t i ≡ true = known.others_live i hi ∙ other-lives b i apart in
+    let dead : not_live n t b ≡ true = rw (known.others_live b hb, but-dead b) refl in
+    let row = ap (λ (r : List ℕ). get_or r b 0) (known.exact i hi mine) in
+    let one : get_or (list_of exact n) b 0 ≡ 1 = list_of-at exact n b hb ∙ ap bit dead in
+    omega (arith, unaware, row_at n t i b hb, row, one)

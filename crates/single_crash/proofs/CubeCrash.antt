@@ -27,7 +27,7 @@ use Rattle.granter.specs.Grant.{waits}
 use Rattle.granter.specs.Drive.{Stand, granted_at}
 use Rattle.granter.specs.Fairness.{stations_before}
 use Rattle.single_crash.specs.Sweeps.{turns_made}
-use Rattle.single_crash.proofs.Running.{Running, chosen, going}
+use Rattle.single_crash.proofs.Running.{Running, chosen, going, live-waits}
 use Rattle.single_crash.proofs.Crashing.{everyone, all_but, but-apart}
 use Rattle.single_crash.proofs.Passes.{turns_left}
 use Rattle.single_crash.proofs.CubePace.{Cubic, OnPace}
@@ -91,11 +91,10 @@ module _ {n d : ℕ} (b : ℕ) (c : Cubic n d) (hb : b < n) {begins : ℕ} {q : 
       omega (arith, waiting-turns (granted_at n q) at.0 at.1, zero, ((pace (granted_at n q) at.0).going zero).0)
 
   turns-low : (i : ℕ) → i < n → sweep ≤ suc (turns_made n t i)
-  unfolding waits
   turns-low i h =
       by_cases (ℕ_discrete (finished n t i) 1)
       (λ f. omega (arith, sweep-most, f, (pace i h).ended f))
-      (λ f. waiting-turns i h (rw (r.plain.lives i h, ne_eqb (finished n t i) 1 f) refl))
+      (λ f. waiting-turns i h (live-waits r i h refl (unfinished-tests i h f)))
 
   -- who has made a turn has made a test
   some-test : (i : ℕ) → i < n → 1 ≤ turns_made n t i → 1 ≤ tests_made n t i

@@ -6,14 +6,14 @@ use mathlib.Core.Logic.{◌≢◌, by_cases}
 use mathlib.Core.Bool.{Bool, true, false}
 use mathlib.Core.List.{List}
 use Prim.Native.Nat.{ℕ, suc, ◌+◌, ◌%◌, ◌^◌, ◌≤◌, ◌<◌}
-use native.Mathlib.Nat.{mul-zero, mod-eq_of_lt}
+use native.Mathlib.Nat.{mod-eq_of_lt}
 use native.Mathlib.Decide.{ℕ_discrete, dec_lt}
 use native.Mathlib.Omega.{arith}
 use borrow.Author.Tests.{ne_eqb}
 use lib.Bits.{bit_xor, xor_mod, xor_lt}
 use lib.Pow.{pow_mono, pow-lt}
 use Rattle.lists.proofs.BoolLaws.{by_bool}
-use Rattle.lists.proofs.SumLaws.{sum_by, sum-const}
+use Rattle.lists.proofs.SumLaws.{sum-zero}
 use Rattle.lists.proofs.Xor.{xor-cancel, xor-undo}
 use Rattle.table.specs.declared.wiring.Wiring.TheVariants.{Cube}
 use Rattle.table.specs.Table.{next_column, finished_column, next_distance, finished, tests_made, suspects, row}
@@ -24,20 +24,17 @@ use Rattle.station.specs.Wired.{wired_station, next_after}
 use Rattle.station.proofs.WiredLaws.{cube-station}
 use Rattle.plant.specs.Turn.{next_test, makes_test}
 use Rattle.plant.proofs.NextTest.{test-station}
-use Rattle.granter.specs.Grant.{waits}
 use Rattle.granter.specs.Fairness.{stations_before}
 use Rattle.granter.specs.Drive.{Stand, grant_turn}
 use Rattle.detection.proofs.TestsDue.{row-unsuspected}
 use Rattle.detection.proofs.TurnEffect.{Row, Tested}
-use Rattle.detection.proofs.RoundKnowledge.{all-finished}
-use Rattle.witness.proofs.Moves.{finish-bytes, test-bytes}
 use Rattle.single_crash.specs.Sweeps.{turns_made}
 use Rattle.single_crash.proofs.Sweeps.{place-below}
 use Rattle.single_crash.proofs.SweepLaw.{grant_of}
-use Rattle.single_crash.proofs.Running.{Running, is_live, going, kept, heads, moved, goes_on}
+use Rattle.single_crash.proofs.Running.{Running, going, kept, heads, moved, goes_on, turn-less, live-waits, has-ended, all-ended, rows-same, rows-tested, left_of}
 use Rattle.single_crash.proofs.Crashing.{all_but, but-dead, but-apart}
-use Rattle.single_crash.proofs.Passes.{turns_left, left-turn}
-use Rattle.single_crash.proofs.OnRing.{left_of}
+use Rattle.single_crash.proofs.Passes.{turns_left}
+use Rattle.single_crash.proofs.Running.{left_of}
 use Rattle.single_crash.proofs.Heard.{Heard, had, found, told_by_tester, told_by_tested, heard}
 use Rattle.single_crash.proofs.CubeDue.{Few, power-due, second-due}
 use Rattle.single_crash.proofs.CubePace.{Cubic, few-but, Paced, pace-test, due-now}
@@ -70,6 +67,12 @@ pub record Late (n d : ℕ) (p : Stand) : Type 0 where
 -- how many turns are left until each has made three
 abbrev pub left_of_three : ℕ → List ℕ → ℕ
 left_of_three n t = left_of n L (λ i. 2) t
+
+-- none are left where each has
+none-left : (n : ℕ) (t : List ℕ) → ((i : ℕ) → i < n → i ≢ 1 → 3 ≤ turns_made n t i) → left_of_three n t ≡ 0
+unfolding turns_left
+none-left n t all =
+    sum-zero n (λ i h. by_bool (L i) (λ live. rw live (omega (arith, all i h (but-apart 1 i live)))) (λ live. rw live refl))
 
 -- last digits below 4 stay so by a distance below 4
 low-across : (m k : ℕ) → m % 2 ^ 3 < 2 ^ 2 → k < 2 ^ 2 → bit_xor m k % 2 ^ 3 < 2 ^ 2
@@ -142,7 +145,7 @@ module _ {n d : ℕ} (c : Cubic n d) (three : 3 ≤ d) (eight : 8 ≤ n) {p : St
       by_cases (ℕ_discrete i 0)
       (λ z. by_cases (dec_lt (turns_made n t 0) 3) (λ l. absurd (f (rw z (o.early.going l)))) (λ l. rw z (omega arith)))
       (λ z.
-      let one : finished n t i ≡ 1 = omega (arith, f, (o.running.plain.lines.1 i h).pass.finished_range) in
+      let one = has-ended o.running i h f in
       omega (arith, ((o.paced i h q).far (not-beside i z)).ended one))
 
   fewest-made : (i : ℕ) → i < n → i ≢ 1 → turns_made n t i < 3 → made ≤ turns_made n t i
@@ -153,20 +156,15 @@ module _ {n d : ℕ} (c : Cubic n d) (three : 3 ≤ d) (eight : 8 ≤ n) {p : St
 
   -- as long as turns are left to three the granted board makes one of them
   pub few-turns : 1 ≤ left_of_three n t → made < 3
-  unfolding turns_left
   few-turns some =
       by_cases (dec_lt made 3) (λ l. l)
       (λ l.
       let all : (i : ℕ) → i < n → i ≢ 1 → 3 ≤ turns_made n t i =
       λ i h q. by_cases (dec_lt (turns_made n t i) 3) (λ m. absurd (omega (arith, fewest-made i h q m))) (λ m. omega arith) in
-      let each : (i : ℕ) → i < n → turns_left L (λ i. 2) (turns_made n t) i ≡ 0 =
-      λ i h. by_bool (L i) (λ live. rw live (omega (arith, all i h (but-apart 1 i live)))) (λ live. rw live refl) in
-      absurd (omega (arith, some, sum_by n each, sum-const 0 n, mul-zero n)))
+      absurd (omega (arith, some, none-left n t all)))
 
   pub late-less : made < 3 → suc (left_of_three n t') ≡ left_of_three n t
-  late-less l =
-      let m = moved o.running in
-      left-turn n L (λ i. 2) (turns_made n t) (turns_made n t') g below (is_live o.running) (omega arith) m.own m.others
+  late-less l = turn-less o.running (λ i. 2) (omega arith)
 
   turns-own : (i : ℕ) → g ≡ i → turns_made n t' i ≡ suc made
   turns-own i e = ap (turns_made n t') (sym e) ∙ (moved o.running).own
@@ -228,19 +226,15 @@ module _ {n d : ℕ} (c : Cubic n d) (three : 3 ≤ d) (eight : 8 ≤ n) {p : St
 
   -- a round does not close as long as turns are left to three
   pub late-open : 1 ≤ left_of_three n t' → round_over n t' ≡ false
-  unfolding turns_left
   late-open some =
       by_bool (round_over n t')
       (λ over.
-      let plain = (kept o.running).plain in
       let all : (i : ℕ) → i < n → i ≢ 1 → 3 ≤ turns_made n t' i =
-      λ i h q. let f = all-finished Cube n L t' plain over i h (others i h q) in
+      λ i h q. let f = all-ended o.running over i h (others i h q) in
       by_cases (ℕ_discrete i 0)
       (λ z. by_cases (dec_lt (turns_made n t' 0) 3) (λ l. absurd (omega (arith, early'.going l, ap (finished n t') z, f))) (λ l. rw z (omega arith)))
       (λ z. omega (arith, f, ((paced' i h q).far (not-beside i z)).ended f)) in
-      let each : (i : ℕ) → i < n → turns_left L (λ i. 2) (turns_made n t') i ≡ 0 =
-      λ i h. by_bool (L i) (λ live. rw live (omega (arith, all i h (but-apart 1 i live)))) (λ live. rw live refl) in
-      absurd (omega (arith, some, sum_by n each, sum-const 0 n, mul-zero n)))
+      absurd (omega (arith, some, none-left n t' all)))
       (λ on. on)
 
   -- whom the granted board tests
@@ -253,15 +247,11 @@ module _ {n d : ℕ} (c : Cubic n d) (three : 3 ≤ d) (eight : 8 ≤ n) {p : St
   -- where a suspicion of board 1 comes from
   heard-of : (x : ℕ) → x < n → suspects n t' x 1 ≡ 1 → makes_test Cube n t g ≡ true → Heard n t g y x 1
   heard-of x hx one e =
-      let bytes =
-      test-bytes Cube n L t g c.size o.running.plain o.running.crew.company below (is_live o.running) unfinished e x 1 hx
-      (omega arith) in
-      heard n t (L y) g y x 1 (sym bytes ∙ one)
+      heard n t (L y) g y x 1 (sym (rows-tested o.running e x 1 hx (omega arith)) ∙ one)
 
   same-row : (x : ℕ) → makes_test Cube n t g ≡ false → suspects n t' x 1 ≡ suspects n t x 1
   same-row x e =
-      finish-bytes Cube n L t g c.size o.running.plain o.running.crew.company below (is_live o.running) unfinished e x 1
-      (omega arith)
+      rows-same o.running e x 1 (omega arith)
 
   -- board 1 does not suspect itself
   not-dead : (x : ℕ) → suspects n t x 1 ≡ 1 → x ≢ 1
@@ -361,31 +351,27 @@ module _ {n d : ℕ} (c : Cubic n d) (three : 3 ≤ d) (eight : 8 ≤ n) {p : St
 
   -- who waits when board 4 has made three turns has made three too
   waiting-three : 3 ≤ turns_made n t 4 → (i : ℕ) → i < n → i ≢ 1 → finished n t i ≡ 0 → 3 ≤ turns_made n t i
-  unfolding waits
   waiting-three l i h q f =
       let s = o.running.sweep in
-      let waits_i : waits n t i ≡ true = rw (o.running.plain.lives i h ∙ others i h q, f) refl in
+      let waits_i = live-waits o.running i h (others i h q) f in
       let place = place-below n 5 i (omega arith) h in
       by_cases (dec_lt (stations_before n 5 i) s.passed)
       (λ m. omega (arith, s.done i h waits_i m, s.most 4 (omega arith)))
       (λ m.
       by_cases (ℕ_discrete (finished n t 4) 0)
       (λ z.
-      let waits_4 : waits n t 4 ≡ true = rw (o.running.plain.lives 4 (omega arith), z) refl in
+      let waits_4 = live-waits o.running 4 (omega arith) refl z in
       omega (arith, s.to_come i h waits_i (omega arith), s.to_come 4 (omega arith) waits_4 (omega (arith, place, place-last n (omega arith)))))
       (λ z.
-      let one : finished n t 4 ≡ 1 = omega (arith, z, (o.running.plain.lines.1 4 (omega arith)).pass.finished_range) in
+      let one = has-ended o.running 4 (omega arith) z in
       let all = ((o.paced 4 (omega arith) (λ q. omega arith)).far (not-beside 4 (λ q. omega arith))).ended one in
       omega (arith, s.to_come i h waits_i (omega arith), s.most 4 (omega arith), all, one)))
 
   -- where turns are left to three board 4 has not made its third
   pub late-unaware : 1 ≤ left_of_three n t → suspects n t 4 1 ≡ 0
-  unfolding turns_left
   late-unaware some =
       by_cases (dec_lt (turns_made n t 4) 3) o.unaware
       (λ l.
       let all : (i : ℕ) → i < n → i ≢ 1 → 3 ≤ turns_made n t i =
       λ i h q. by_cases (ℕ_discrete (finished n t i) 0) (waiting-three (omega arith) i h q) (ended-three i h q) in
-      let each : (i : ℕ) → i < n → turns_left L (λ i. 2) (turns_made n t) i ≡ 0 =
-      λ i h. by_bool (L i) (λ live. rw live (omega (arith, all i h (but-apart 1 i live)))) (λ live. rw live refl) in
-      absurd (omega (arith, some, sum_by n each, sum-const 0 n, mul-zero n)))
+      absurd (omega (arith, some, none-left n t all)))

@@ -19,7 +19,7 @@ use Rattle.plant.specs.Turn.{next_test, makes_test}
 use Rattle.granter.specs.Drive.{Stand}
 use Rattle.detection.proofs.TurnEffect.{Row, Tested}
 use Rattle.single_crash.proofs.SweepLaw.{grant_of}
-use Rattle.single_crash.proofs.Running.{Running, going, kept, heads}
+use Rattle.single_crash.proofs.Running.{Running, going, kept, heads, has-ended}
 use Rattle.single_crash.proofs.CubeDue.{Few}
 use Rattle.single_crash.proofs.CubePace.{Cubic, few-but, Paced, pace-test, first-test}
 use Rattle.single_crash.proofs.CubeRun.{OthersLive, fewest, granted-other}
@@ -66,7 +66,7 @@ module _ {n d b : ℕ} {Learns : ℕ → Type 0} {need : ℕ → ℕ} (way : Way
       nearer-known x hx far s l =
           by_cases (ℕ_discrete (finished n t x) 0)
           (λ f. known x hx far s (omega (arith, fewest r b c others x hx far f)))
-          (λ f. learned-ended t paced known x hx far s (omega (arith, f, (r.plain.lines.1 x hx).pass.finished_range)))
+          (λ f. learned-ended t paced known x hx far s (has-ended r x hx f))
 
       -- the test at which it learns
       level-test : makes_test Cube n t g ≡ true → need g ≡ suc made → next_test Cube n t g ≡ 2 ^ made

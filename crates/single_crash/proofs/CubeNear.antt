@@ -22,8 +22,7 @@ use Rattle.plant.specs.Turn.{next_test, makes_test}
 use Rattle.plant.proofs.NextTest.{test-station}
 use Rattle.granter.specs.Drive.{Stand}
 use Rattle.single_crash.proofs.SweepLaw.{grant_of}
-use Rattle.single_crash.proofs.Running.{Running, is_live, going, heads}
-use Rattle.witness.proofs.Moves.{finish-bytes, test-bytes}
+use Rattle.single_crash.proofs.Running.{Running, going, heads, has-ended, rows-same, rows-tested}
 use Rattle.single_crash.proofs.Heard.{Heard, had, found, told_by_tester, told_by_tested, heard}
 use Rattle.single_crash.proofs.CubeDue.{Few}
 use Rattle.single_crash.proofs.CubePace.{Cubic, few-none, few-but, beside-none, OnPace, pace-test, pace-own}
@@ -87,7 +86,7 @@ module _ {n d : ℕ} (b : ℕ) {L : ℕ → Bool} (c : Cubic n d) (others : Othe
   all-made enough z hz q =
       by_cases (ℕ_discrete (finished n t z) 0)
       (λ f. omega (arith, fewest r b c others z hz q f))
-      (λ f. omega (arith, (pace z hz q).ended (omega (arith, f, (r.plain.lines.1 z hz).pass.finished_range))))
+      (λ f. omega (arith, (pace z hz q).ended (has-ended r z hz f)))
 
   made-on : AllMade n b s t → AllMade n b s t'
   made-on all z hz q = omega (arith, all z hz q, more-tests r z)
@@ -127,13 +126,9 @@ module _ {n d : ℕ} (b : ℕ) {L : ℕ → Bool} (c : Cubic n d) (others : Othe
     where
       by_turn : (x : ℕ) → x < n → x ≢ b → suspects n t' x b ≡ 1 → Multiple b s x × AllMade n b s t
       by_turn x hx q one =
-          let live = is_live r in
-          let unfinished = going r in
           by_bool (makes_test Cube n t g)
           (λ e.
           let at : wired_station Cube n g (next_test Cube n t g) ≡ station_at g (2 ^ made) =
           cube-station Cube n g (next_test Cube n t g) refl ∙ ap (station_at g) (near-test e) in
-          let bytes = test-bytes Cube n L t g c.size r.plain r.crew.company below live unfinished e x b hx hb in
-          heard-near _ x at (test-station Cube n t g e r.plain.lines.0 below) (heard n t _ g _ x b (sym bytes ∙ one)) hx q)
-          (λ e. near.aware x hx q
-          (sym (finish-bytes Cube n L t g c.size r.plain r.crew.company below live unfinished e x b hb) ∙ one))
+          heard-near _ x at (test-station Cube n t g e r.plain.lines.0 below) (heard n t _ g _ x b (sym (rows-tested r e x b hx hb) ∙ one)) hx q)
+          (λ e. near.aware x hx q (sym (rows-same r e x b hb) ∙ one))

@@ -6,13 +6,13 @@ use mathlib.Core.Logic.{◌≢◌, by_cases}
 use mathlib.Core.Bool.{true}
 use mathlib.Core.List.{List}
 use Prim.Native.Nat.{ℕ, zero, suc, ◌+◌, ◌*◌, ◌-◌, ◌≤◌, ◌<◌}
-use native.Mathlib.Nat.{mul-suc, suc-mul, mul-zero}
+use native.Mathlib.Nat.{mul-suc, suc-mul}
 use native.Mathlib.Decide.{ℕ_discrete, dec_lt}
 use native.Mathlib.Omega.{arith}
 use borrow.Author.Tests.{ne_eqb}
 use Rattle.lists.specs.Sums.{sum_below}
 use Rattle.lists.proofs.BoolLaws.{by_bool}
-use Rattle.lists.proofs.SumLaws.{sum_by, sum-add, sum-const}
+use Rattle.lists.proofs.SumLaws.{sum-zero, sum-add, sum-const}
 use Rattle.table.specs.declared.wiring.Wiring.TheVariants.{Cube}
 use Rattle.table.specs.Table.{finished}
 use Rattle.table.specs.Rules.{round_over}
@@ -20,13 +20,12 @@ use Rattle.slots.proofs.Counts.{sum-le}
 use Rattle.granter.specs.Grant.{waits}
 use Rattle.granter.specs.Fairness.{stations_before}
 use Rattle.granter.specs.Drive.{Stand, grant_turn, after_grants}
-use Rattle.detection.proofs.RoundKnowledge.{all-finished}
 use Rattle.single_crash.specs.Sweeps.{turns_made}
 use Rattle.single_crash.proofs.SweepLaw.{grant_of}
-use Rattle.single_crash.proofs.Running.{Running, chosen, kept, moved, goes_on}
+use Rattle.single_crash.proofs.Running.{Running, chosen, goes_on, turn-less, live-waits, has-ended, all-ended, left_of}
 use Rattle.single_crash.proofs.Crashing.{everyone}
-use Rattle.single_crash.proofs.Passes.{turns_left, left-turn}
-use Rattle.single_crash.proofs.OnRing.{left_of}
+use Rattle.single_crash.proofs.Passes.{turns_left}
+use Rattle.single_crash.proofs.Running.{left_of}
 use Rattle.single_crash.proofs.RingStages.{at_place, sum-at}
 use Rattle.single_crash.proofs.CubePace.{Cubic, OnPace}
 use Rattle.single_crash.proofs.CubeWhole.{all_live, whole-pace}
@@ -55,18 +54,14 @@ module _ {n d : ℕ} (c : Cubic n d) (three : 3 ≤ d) (eight : 8 ≤ n) where
 
     one-less : suc (left_of n everyone (λ i. d) t') ≡ left_of n everyone (λ i. d) t
     one-less =
-        let m = moved o.running in
-        left-turn n everyone (λ i. d) (turns_made n t) (turns_made n t') g below refl
-        (turns-granted n c (all_live n) (omega arith) o.running (λ i h q. o.pace i h) (present g below)) m.own m.others
+        turn-less o.running (λ i. d)
+        (turns-granted n c (all_live n) (omega arith) o.running (λ i h q. o.pace i h) (present g below))
 
     -- a round that closes has no turn left
     none-left : round_over n t' ≡ true → left_of n everyone (λ i. d) t' ≡ 0
     unfolding turns_left
     none-left over =
-        let plain = (kept o.running).plain in
-        let each : (i : ℕ) → i < n → turns_left everyone (λ i. d) (turns_made n t') i ≡ 0 =
-        λ i h. let f = all-finished Cube n everyone t' plain over i h refl in omega (arith, f, (pace' i h).ended f) in
-        sum_by n each ∙ (sum-const 0 n ∙ mul-zero n)
+        sum-zero n (λ i h. let f = all-ended o.running over i h refl in omega (arith, f, (pace' i h).ended f))
 
     opening-next : suc k < n * suc d → Opening n d (suc k) (grant_turn Cube n p)
     opening-next more =
@@ -134,10 +129,9 @@ module _ {n d : ℕ} (c : Cubic n d) (three : 3 ≤ d) (eight : 8 ≤ n) where
 
     -- board 4 has not finished, so that the others have made a turn more at the most
     last-waits : waits n u 4 ≡ true
-    unfolding waits
-    last-waits =
-        let going : finished n u 4 ≢ 1 = λ f. omega (arith, low, f, (o.pace 4 (omega arith)).ended f) in
-        rw (o.running.plain.lives 4 (omega arith), ne_eqb (finished n u 4) 1 going) refl
+    last-waits = live-waits o.running 4 (omega arith) refl
+        (by_cases (ℕ_discrete (finished n u 4) 0) (λ f. f)
+        (λ f. let one = has-ended o.running 4 (omega arith) f in absurd (omega (arith, low, one, (o.pace 4 (omega arith)).ended one))))
 
     high : (i : ℕ) → i < n → turns_made n u i ≤ suc (turns_made n u 4)
     high i h =

@@ -2,19 +2,18 @@
 -- Assumes nothing.
 use mathlib.Core.Path.{◌≡◌, refl, sym, ap, ◌∙◌}
 use mathlib.Core.Logic.{◌≢◌, by_cases}
-use mathlib.Core.Bool.{Bool, true}
+use mathlib.Core.Bool.{Bool}
 use Prim.Native.Nat.{ℕ, suc, ◌-◌, ◌≤◌, ◌<◌}
 use native.Mathlib.Decide.{ℕ_discrete}
 use native.Mathlib.Omega.{arith}
 use Rattle.table.specs.Table.{finished}
 use Rattle.table.specs.declared.wiring.Wiring.TheVariants.{Cube}
-use Rattle.granter.specs.Grant.{waits}
 use Rattle.granter.specs.Fairness.{stations_before}
 use Rattle.granter.specs.Drive.{Stand}
 use Rattle.single_crash.specs.Sweeps.{turns_made}
-use Rattle.single_crash.proofs.Sweeps.{place-below, place-one, sweep-first}
+use Rattle.single_crash.proofs.Sweeps.{place-below, place-one}
 use Rattle.single_crash.proofs.SweepLaw.{grant_of}
-use Rattle.single_crash.proofs.Running.{Running, chosen, going, moved, next}
+use Rattle.single_crash.proofs.Running.{Running, chosen, going, moved, grant-first, live-waits, has-ended}
 use Rattle.single_crash.proofs.CubePace.{Cubic, OnPace}
 use Rattle.single_crash.proofs.CubeRun.{OthersLive, fewest-turns}
 
@@ -36,7 +35,7 @@ module _ {n d : ℕ} (b : ℕ) {L : ℕ → Bool} (c : Cubic n d) (others : Othe
   -- a board that has finished has made d + 1 turns
   pub turns-ended : (i : ℕ) → i < n → i ≢ b → finished n t i ≢ 0 → turns_made n t i ≡ suc d
   turns-ended i h q f =
-      let one : finished n t i ≡ 1 = omega (arith, f, (r.plain.lines.1 i h).pass.finished_range) in
+      let one = has-ended r i h f in
       omega (arith, one, (pace i h q).ended one)
 
   -- and the granted one fewer
@@ -47,10 +46,7 @@ module _ {n d : ℕ} (b : ℕ) {L : ℕ → Bool} (c : Cubic n d) (others : Othe
 
   -- of those that have made as many as the granted one it comes first
   first-of : (i : ℕ) → i < n → i ≢ b → finished n t i ≡ 0 → turns_made n t g ≡ turns_made n t i → stations_before n 5 g ≤ stations_before n 5 i
-  unfolding waits
-  first-of i h q f e =
-      let waiting : waits n t i ≡ true = rw (r.plain.lives i h ∙ others i h q, f) refl in
-      sweep-first n 5 (waits n t) (turns_made n t) p.last g r.fits r.sweep (next r) i h waiting e
+  first-of i h q f e = grant-first r i h (live-waits r i h (others i h q) f) e
 
   own-turn : (i : ℕ) → g ≡ i → turns_made n t' i ≡ suc (turns_made n t i)
   own-turn i e =

@@ -11,21 +11,15 @@ use native.Mathlib.Decide.{ℕ_discrete}
 use native.Mathlib.Omega.{arith}
 use borrow.Author.Tests.{ne_eqb}
 use lib.Bits.{bit_xor}
-use lib.ListN.{get_or}
 use lib.Pow.{pow_mono}
-use Rattle.lists.specs.Search.{list_of}
-use Rattle.lists.specs.Sums.{bit}
 use Rattle.lists.proofs.BoolLaws.{by_bool}
-use Rattle.lists.proofs.SearchLaws.{list_of-at}
 use Rattle.lists.proofs.SumLaws.{sum_by, sum-add, sum-const}
 use Rattle.lists.proofs.Xor.{xor-undo}
 use Rattle.table.specs.Sizes.{is_size}
 use Rattle.table.specs.declared.wiring.Wiring.TheVariants.{Cube}
-use Rattle.table.specs.Table.{head, stride, cell, next_column, finished_column, tests_column, finished, tests_made, suspects, live}
-use Rattle.table.specs.Rules.{not_live, round_over}
+use Rattle.table.specs.Table.{head, stride, cell, next_column, finished_column, tests_column, finished, tests_made, suspects}
+use Rattle.table.specs.Rules.{round_over}
 use Rattle.table.specs.Fresh.{fresh_table}
-use Rattle.table.specs.Properties.{exact_row}
-use Rattle.table.proofs.CellLaws.{row_at}
 use Rattle.station.specs.Groups.{distance}
 use Rattle.plant.specs.Turn.{crash}
 use Rattle.plant.specs.Entry.{state_of}
@@ -34,14 +28,13 @@ use Rattle.slots.proofs.Counts.{sum-le}
 use Rattle.granter.specs.Grant.{following}
 use Rattle.granter.specs.Drive.{Stand, stand_at, grant_turn, after_grants}
 use Rattle.granter.proofs.GrantLaws.{station-fits}
-use Rattle.detection.proofs.RoundKnowledge.{all-finished}
 use Rattle.single_crash.specs.Sweeps.{turns_made}
 use Rattle.single_crash.specs.Setting.{Sound, crash_at, behind_crash, KnownDead}
 use Rattle.single_crash.specs.Cube.{CubeNoFewerGrants, CubeNoFewerRounds}
 use Rattle.single_crash.proofs.SweepLaw.{grant_of}
-use Rattle.single_crash.proofs.Running.{Crew, Running, is_live, kept, heads, moved, closes, goes_on}
-use Rattle.single_crash.proofs.Crashing.{everyone, but-dead, but-apart, sound-fresh, sound-run, crash-plain, crash-same, crash-goes_on, crash-turns}
-use Rattle.single_crash.proofs.Passes.{turns_left, left-turn}
+use Rattle.single_crash.proofs.Running.{Crew, Running, heads, closes, goes_on, turn-less, has-ended, all-ended}
+use Rattle.single_crash.proofs.Crashing.{everyone, but-dead, but-apart, sound-fresh, sound-run, crash-same, crash-goes_on, crash-turns, stays-open, not-known}
+use Rattle.single_crash.proofs.Passes.{turns_left}
 use Rattle.single_crash.proofs.RingStages.{at_place, sum-at}
 use Rattle.single_crash.proofs.FreshSound.{fresh-is-sound}
 use Rattle.single_crash.proofs.CubePace.{Cubic, OnPace, pace-start, pace-same, pace-paced}
@@ -83,10 +76,7 @@ module _ {n d : ℕ} (c : Cubic n d) (three : 3 ≤ d) (eight : 8 ≤ n) where
     granted-most = turns-granted 1 c others (omega arith) o.running o.pace apart
 
     rest-less : suc (left_with n d 1 3 t') ≡ left_with n d 1 3 t
-    rest-less =
-        let m = moved o.running in
-        left-turn n L (λ i. d + 3) (turns_made n t) (turns_made n t') g below (is_live o.running)
-        (omega (arith, granted-most)) m.own m.others
+    rest-less = turn-less o.running (λ i. d + 3) (omega (arith, granted-most))
 
     pace' : (i : ℕ) → i < n → i ≢ 1 → OnPace n d t' i
     pace' = near-pace 1 c others (but-dead 1) (omega arith) o.running o.pace (omega arith) three o.near
@@ -104,7 +94,7 @@ module _ {n d : ℕ} (c : Cubic n d) (three : 3 ≤ d) (eight : 8 ≤ n) where
 
     module _ (over : round_over n t' ≡ true) where
       ended : (i : ℕ) → i < n → i ≢ 1 → finished n t' i ≡ 1
-      ended i h q = all-finished Cube n L t' (kept o.running).plain over i h (others i h q)
+      ended i h q = all-ended o.running over i h (others i h q)
 
       -- the round closes with a turn of board 4
       closer : g ≡ 4
@@ -188,7 +178,7 @@ module _ {n d : ℕ} (c : Cubic n d) (three : 3 ≤ d) (eight : 8 ≤ n) where
       let most : turns_made n p.state.table 4 ≤ suc d =
       by_cases (ℕ_discrete (finished n p.state.table 4) 0) (λ f. omega (arith, f, (paced.going f).0))
       (λ f.
-      let one : finished n p.state.table 4 ≡ 1 = omega (arith, f, (o.running.plain.lines.1 4 (omega arith)).pass.finished_range) in
+      let one = has-ended o.running 4 (omega arith) f in
       omega (arith, one, paced.ended one)) in
       rw q (omega (arith, most)))
       (λ q. rw (ne_eqb i 4 q) (omega arith)) in
@@ -220,18 +210,12 @@ module _ {n d : ℕ} (c : Cubic n d) (three : 3 ≤ d) (eight : 8 ≤ n) {q : St
   made-tests i m h few l =
       by_cases (ℕ_discrete (finished n u i) 0) (λ f. omega (arith, f))
       (λ f.
-      let one : finished n u i ≡ 1 = omega (arith, f, (o.running.plain.lines.1 i h).pass.finished_range) in
+      let one = has-ended o.running i h f in
       omega (arith, (o.pace i h).ended one))
 
   -- the round does not close
   crash-on : round_over n v ≡ false
-  crash-on =
-      by_bool (round_over n v)
-      (λ over.
-      let f = all-finished Cube n L v (crash-plain 1 team (omega arith) o.running) over 4 (omega arith) refl in
-      let was : finished n u 4 ≡ 1 = sym (bytes 4 finished_column (omega arith) (omega arith)) ∙ f in
-      absurd (omega (arith, was, two, (o.pace 4 (omega arith)).ended was)))
-      (λ on. on)
+  crash-on = stays-open 1 team (omega arith) o.running 4 (omega arith) (omega arith) (λ e. omega (arith, e, two, (o.pace 4 (omega arith)).ended e))
 
   turns-same : (i : ℕ) → turns_made n q'.state.table i ≡ turns_made n u i
   turns-same = crash-turns 1 team (omega arith) o.running crash-on
@@ -354,15 +338,8 @@ module _ (n d : ℕ) (size : is_size n ≡ true) (three : 3 ≤ d) (power : n �
       slow-after cubic three eight _ 1 (enough n d - 1) (omega arith) crashed (rw all first)
 
   unknown : ¬ (KnownDead n end.state.table 1)
-  unfolding exact_row
-  unknown known =
-      let t : List ℕ = end.state.table in
-      let mine : live n t 4 ≡ true = known.others_live 4 (omega (arith, eight)) in
-      let dead : not_live n t 1 ≡ true = rw (known.others_live 1 (omega (arith, eight))) refl in
-      let row = ap (λ (r : List ℕ). get_or r 1 0) (known.exact 4 (omega (arith, eight)) mine) in
-      let one : get_or (list_of (λ j. bit (not_live n t j)) n) 1 0 ≡ 1 =
-      list_of-at (λ j. bit (not_live n t j)) n 1 (omega (arith, eight)) ∙ ap bit dead in
-      omega (arith, (slow-end cubic three eight _ _ slow).0, row_at n t 4 1 (omega (arith, eight)), row, one)
+  unknown =
+      not-known n 4 1 end.state.table (omega (arith, eight)) (omega (arith, eight)) (omega arith) (slow-end cubic three eight _ _ slow).0
 
 -- so one grant fewer is not enough, nor is one round: ends in themselves
 pub cube-no-fewer-grants : CubeNoFewerGrants

@@ -1,7 +1,7 @@
 -- On the cube of 2^d boards under the bus master, all live but perhaps b: what a grant with its turn does to passes, and that no other board that
 -- waits has made fewer tests than the granted one.
 -- Assumes nothing.
-use mathlib.Core.Path.{◌≡◌, refl, sym, ◌∙◌}
+use mathlib.Core.Path.{◌≡◌, sym, ◌∙◌}
 use mathlib.Core.Logic.{◌≢◌, by_cases}
 use mathlib.Core.Bool.{Bool, true, false, true≢false}
 use Prim.Native.Nat.{ℕ, ◌≤◌, ◌<◌}
@@ -10,12 +10,10 @@ use native.Mathlib.Omega.{arith}
 use lib.Pow.{pow_mono}
 use Rattle.table.specs.Table.{next_column, finished_column, tests_column, finished, tests_made}
 use Rattle.table.specs.declared.wiring.Wiring.TheVariants.{Cube}
-use Rattle.granter.specs.Grant.{waits}
 use Rattle.granter.specs.Drive.{Stand}
 use Rattle.single_crash.specs.Sweeps.{turns_made}
-use Rattle.single_crash.proofs.Sweeps.{sweep-fewest}
 use Rattle.single_crash.proofs.SweepLaw.{grant_of}
-use Rattle.single_crash.proofs.Running.{Running, chosen, is_live, going, heads, next}
+use Rattle.single_crash.proofs.Running.{Running, chosen, is_live, going, heads, grant-fewest, live-waits}
 use Rattle.single_crash.proofs.CubePace.{Cubic, few-but, OnPace, Paced, pace-same, paced-same, paced-own}
 
 pub four : {n d : ℕ} → Cubic n d → 4 ≤ n
@@ -54,10 +52,7 @@ module _ {n : ℕ} {L : ℕ → Bool} {begins : ℕ} {p : Stand} (r : Running Cu
   -- no other board that waits has made fewer turns, and so fewer tests
   module _ {d : ℕ} (b : ℕ) (c : Cubic n d) (others : OthersLive n b L) where
     pub fewest-turns : (x : ℕ) → x < n → x ≢ b → finished n t x ≡ 0 → turns_made n t g ≤ turns_made n t x
-    unfolding waits
-    fewest-turns x hx apart f =
-        let waiting : waits n t x ≡ true = rw (r.plain.lives x hx ∙ others x hx apart, f) refl in
-        sweep-fewest n begins (waits n t) (turns_made n t) p.last g r.fits r.sweep (next r) x hx waiting
+    fewest-turns x hx apart f = grant-fewest r x hx (live-waits r x hx (others x hx apart) f)
 
     pub fewest : (x : ℕ) → x < n → x ≢ b → finished n t x ≡ 0 → tests_made n t g ≤ tests_made n t x
     fewest x hx apart f = omega (arith, fewest-turns x hx apart f, f, going r)

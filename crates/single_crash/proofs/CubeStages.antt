@@ -21,14 +21,13 @@ use Rattle.granter.specs.Grant.{waits}
 use Rattle.granter.specs.Drive.{Stand, grant_turn}
 use Rattle.granter.proofs.GrantLaws.{waits-parts}
 use Rattle.detection.proofs.TurnEffect.{Exact}
-use Rattle.detection.proofs.RoundKnowledge.{all-finished}
 use Rattle.single_crash.specs.Sweeps.{turns_made}
 use Rattle.single_crash.proofs.Sweeps.{Moved}
 use Rattle.single_crash.proofs.SweepLaw.{grant_of}
-use Rattle.single_crash.proofs.Running.{Crew, Running, Closed, chosen, is_live, going, kept, moved, closes, goes_on, stays_known, runs_on}
+use Rattle.single_crash.proofs.Running.{Crew, Running, Closed, chosen, is_live, going, moved, closes, goes_on, stays_known, runs_on, turn-less, has-ended, all-ended, left_of}
 use Rattle.single_crash.proofs.Crashing.{all_but, other-lives, but-dead, but-apart, others-crew}
-use Rattle.single_crash.proofs.Passes.{turns_left, left-turn}
-use Rattle.single_crash.proofs.OnRing.{left_of}
+use Rattle.single_crash.proofs.Passes.{turns_left}
+use Rattle.single_crash.proofs.Running.{left_of}
 use Rattle.single_crash.proofs.CubePace.{Cubic, OnPace, Paced, pace-start, pace-paced}
 use Rattle.single_crash.proofs.CubeLearn.{Learned, learned-next, learned-ended}
 use Rattle.single_crash.proofs.CubeWays.{Multiple, by_distance, by_digits, way-distance, way-digits, digits-most, digits-none}
@@ -116,12 +115,9 @@ module _ {n d b : ℕ} (c : Cubic n d) (hb : b < n) {s : ℕ} {p : Stand} (r : S
   -- one turn less is left
   pub spread-less : suc (left_with n d b s t') ≡ left_with n d b s t
   spread-less =
-      let m = moved r.running in
-      let below = (chosen r.running).0 in
-      let live = is_live r.running in
       let zero = going r.running in
-      let most = (r.pace g below (but-apart b g live)).going zero in
-      left-turn n (all_but b) (λ i. d + s) (turns_made n t) (turns_made n t') g below live (omega (arith, most.0, zero)) m.own m.others
+      let most = (r.pace g (chosen r.running).0 (but-apart b g (is_live r.running))).going zero in
+      turn-less r.running (λ i. d + s) (omega (arith, most.0, zero))
 
   pub spread-on : round_over n t' ≡ false → Spread n d b s p'
   spread-on on =
@@ -140,7 +136,7 @@ module _ {n d b : ℕ} (c : Cubic n d) (hb : b < n) {s : ℕ} {p : Stand} (r : S
     closed = closes r.running over
 
     ended : (x : ℕ) → x < n → x ≢ b → finished n t' x ≡ 1
-    ended x h q = all-finished Cube n (all_but b) t' (kept r.running).plain over x h (but-others n b x h q)
+    ended x h q = all-ended r.running over x h (but-others n b x h q)
 
     pub spread-over : Gather n d b s p'
     spread-over = record {
@@ -195,7 +191,7 @@ module _ {n d b : ℕ} (c : Cubic n d) (hb : b < n) {s : ℕ} (le : s ≤ d) {p 
           (λ f.
           let few = fewest-turns r.running b c (but-others n b) x h q f in
           r.learned x h q tt (omega (arith, few, f, digits-most b c hb s x)))
-          (λ f. gather-ended t r.paced r.learned x h q (omega (arith, f, (r.running.plain.lines.1 x h).pass.finished_range)))
+          (λ f. gather-ended t r.paced r.learned x h q (has-ended r.running x h f))
 
   -- else its turn is one of those left
   pub gather-less : turns_made n t g < s → suc (left_to n s t') ≤ left_to n s t
@@ -212,9 +208,8 @@ module _ {n d b : ℕ} (c : Cubic n d) (hb : b < n) {s : ℕ} (le : s ≤ d) {p 
   pub gather-over : round_over n t' ≡ true → AllAware n b p'
   gather-over over =
       let closed = closes r.running over in
-      let plain = (kept r.running).plain in
       let now : (x : ℕ) → x < n → x ≢ b → suspects n t' x b ≡ 1 =
-      λ x h q. gather-ended t' gather-paced' gather-learned' x h q (all-finished Cube n (all_but b) t' plain over x h (but-others n b x h q)) in
+      λ x h q. gather-ended t' gather-paced' gather-learned' x h q (all-ended r.running over x h (but-others n b x h q)) in
       record { begins = _; running = closed.running; exact = exact-of n b _ (λ x h q. closed.grown x b h hb (now x h q)) }
 
   pub gather-aware : s ≤ turns_made n t g → AllAware n b p

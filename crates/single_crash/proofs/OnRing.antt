@@ -5,7 +5,6 @@ use mathlib.Core.Bool.{Bool, true, false}
 use mathlib.Core.List.{List}
 use Prim.Native.Nat.{ℕ, zero, suc, ◌+◌, ◌%◌, ◌≤◌, ◌<◌}
 use native.Mathlib.Omega.{arith}
-use Rattle.lists.specs.Sums.{sum_below}
 use Rattle.lists.proofs.BoolLaws.{by_bool}
 use Rattle.lists.proofs.SumLaws.{sum-zero}
 use Rattle.table.specs.Table.{finished_column, next_distance, finished, tests_made, suspects}
@@ -16,22 +15,17 @@ use Rattle.plant.specs.Turn.{makes_test}
 use Rattle.plant.proofs.RoundLaws.{Reset}
 use Rattle.granter.specs.Drive.{Stand, after_grants}
 use Rattle.detection.proofs.TurnEffect.{Row}
-use Rattle.detection.proofs.RoundKnowledge.{all-finished}
 use Rattle.detection.proofs.RingPass.{RingTurn}
 use Rattle.detection.proofs.RingTurns.{ring-turns}
 use Rattle.single_crash.specs.Sweeps.{turns_made}
 use Rattle.single_crash.proofs.SweepLaw.{grant_of}
-use Rattle.single_crash.proofs.Running.{Running, chosen, is_live, going, kept, heads, moved, closes, goes_on}
+use Rattle.single_crash.proofs.Running.{Running, chosen, is_live, going, kept, heads, closes, goes_on, turn-less, all-ended, left_of}
 use Rattle.single_crash.proofs.Crashing.{everyone}
-use Rattle.single_crash.proofs.Passes.{Reaches, Passing, made-most, passing-start, PassTurn, passing-turn, turn-left, turns_left, left-turn}
+use Rattle.single_crash.proofs.Passes.{Reaches, Passing, made-most, passing-start, PassTurn, passing-turn, turn-left, turns_left}
 
 -- the passes of a table, where each live board has so many tests to make
 abbrev pub PassesOf : ℕ → (ℕ → Bool) → (ℕ → ℕ) → List ℕ → Type 0
 PassesOf n L reach t = Passing n L reach (next_distance n t) (tests_made n t) (finished n t)
-
--- how many turns are left in the round
-abbrev pub left_of : ℕ → (ℕ → Bool) → (ℕ → ℕ) → List ℕ → ℕ
-left_of n L reach t = sum_below (turns_left L reach (turns_made n t)) n
 
 -- where a round begins
 pub passes-fresh : (n : ℕ) (L : ℕ → Bool) (reach : ℕ → ℕ) (t : List ℕ) → ((i : ℕ) → i < n → Reset n t i)
@@ -82,19 +76,15 @@ module _ {n : ℕ} {L : ℕ → Bool} {begins : ℕ} {p : Stand} (r : Running Ri
   module _ (reach : ℕ → ℕ) (pass : PassesOf n L reach t) where
     pub passes-on : PassesOf n L reach t'
     passes-on =
-        passing-turn n L (Row n t) (Row n t') (next_distance n t) (next_distance n t') (tests_made n t) (tests_made n t') (finished n t)
-        (finished n t') g pass-turn reach pass
+        passing-turn pass-turn pass
 
     -- it had a turn left, and has one less
     pub had-left : turns_made n t g ≤ reach g
     had-left =
-        turn-left n L (Row n t) (Row n t') (next_distance n t) (next_distance n t') (tests_made n t) (tests_made n t') (finished n t)
-        (finished n t') g pass-turn reach pass
+        turn-left pass-turn pass
 
     pub one-less : suc (left_of n L reach t') ≡ left_of n L reach t
-    one-less =
-        let m = moved r in
-        left-turn n L reach (turns_made n t) (turns_made n t') g pass-turn.below pass-turn.is_live had-left m.own m.others
+    one-less = turn-less r reach had-left
 
     -- where the round closes with it, it had the last one
     pub none-left : round_over n t' ≡ true → left_of n L reach t' ≡ 0
@@ -103,8 +93,8 @@ module _ {n : ℕ} {L : ℕ → Bool} {begins : ℕ} {p : Stand} (r : Running Ri
         sum-zero n (λ i h.
         by_bool (L i)
         (λ l.
-        let done = all-finished Ring n L t' (kept r).plain over i h l in
-        let made = (made-most n L reach (next_distance n t') (tests_made n t') (finished n t') passes-on i h l).1 done in
+        let done = all-ended r over i h l in
+        let made = (made-most passes-on i h l).1 done in
         rw l (omega arith))
         (λ l. rw l))
 

@@ -35,9 +35,9 @@ passing-start n live reach next made done fresh far = record {
 }
 
 -- how many tests a live board has made at the most, and where it has finished
-pub made-most : (n : ℕ) (live : ℕ → Bool) (reach next made done : ℕ → ℕ) → Passing n live reach next made done → (i : ℕ) → i < n → live i ≡ true
+pub made-most : {n : ℕ} {live : ℕ → Bool} {reach next made done : ℕ → ℕ} → Passing n live reach next made done → (i : ℕ) → i < n → live i ≡ true
     → (made i ≤ reach i) × (done i ≡ 1 → made i ≡ reach i)
-made-most n live reach next made done pass i h l =
+made-most {reach = reach} {made = made} pass i h l =
     by_cases (dec_lt (made i) (reach i)) (λ m. (omega arith, λ e. absurd (omega (arith, pass.testing i h l m))))
     (λ m. let q = pass.tested i h l (omega arith) in (omega (arith, q), λ e. q.1))
 
@@ -51,8 +51,8 @@ pub record PassTurn (n : ℕ) (live : ℕ → Bool) (row row' : ℕ → ℕ → 
   pub tests : next g < n → done' g ≡ 0
   pub ends : n ≤ next g → done' g ≡ 1
 
-module _ (n : ℕ) (live : ℕ → Bool) (row row' : ℕ → ℕ → Type 0) (next next' made made' done done' : ℕ → ℕ) (g : ℕ)
-    (t : PassTurn n live row row' next next' made made' done done' g) (reach : ℕ → ℕ) (pass : Passing n live reach next made done) where
+module _ {n : ℕ} {live : ℕ → Bool} {row row' : ℕ → ℕ → Type 0} {next next' made made' done done' : ℕ → ℕ} {g : ℕ}
+    (t : PassTurn n live row row' next next' made made' done done' g) {reach : ℕ → ℕ} (pass : Passing n live reach next made done) where
   -- a test that is not its last; its last; or the turn that finishes
   abbrev Own : Type 0
   Own =

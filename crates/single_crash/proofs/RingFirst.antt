@@ -9,21 +9,19 @@ use Prim.Native.Nat.{ℕ, suc, ◌+◌, ◌-◌, ◌%◌, ◌≤◌, ◌<◌}
 use native.Mathlib.Decide.{dec_lt, ℕ_discrete}
 use native.Mathlib.Omega.{arith}
 use Rattle.table.specs.Table.{finished_column, tests_column, finished, tests_made, suspects}
-use Rattle.table.specs.Table.{next_distance}
 use Rattle.table.specs.Rules.{round_over}
 use Rattle.table.proofs.SizeLaws.{size-bounds}
 use Rattle.table.specs.declared.wiring.Wiring.TheVariants.{Ring}
 use Rattle.plant.specs.Turn.{crash}
-use Rattle.granter.specs.Grant.{waits, following}
+use Rattle.granter.specs.Grant.{following}
 use Rattle.granter.specs.Fairness.{stations_before}
 use Rattle.granter.specs.Drive.{Stand, grant_turn}
 use Rattle.detection.proofs.TurnEffect.{Exact}
-use Rattle.detection.proofs.RoundKnowledge.{all-finished}
 use Rattle.single_crash.specs.Sweeps.{turns_made}
 use Rattle.single_crash.specs.Setting.{crash_at}
-use Rattle.single_crash.proofs.Sweeps.{place-one, place-below, sweep-first}
+use Rattle.single_crash.proofs.Sweeps.{place-one, place-below}
 use Rattle.single_crash.proofs.SweepLaw.{grant_of}
-use Rattle.single_crash.proofs.Running.{Running, going, kept, heads, next, closes, goes_on}
+use Rattle.single_crash.proofs.Running.{Running, going, kept, heads, closes, goes_on, grant-first, live-waits, all-ended}
 use Rattle.single_crash.proofs.Crashing.{crash-same, crash-goes_on}
 use Rattle.single_crash.proofs.Passes.{made-most}
 use Rattle.single_crash.proofs.Around.{BeginsAt, some-board, begins-fits, place-of, place-zero, place-next, before-below, before-next}
@@ -104,15 +102,12 @@ module _ {n b : ℕ} (board : Board n b) where
 
     -- where d makes its test, a has made one
     a-knows : d ≡ x → tests_made n u d ≡ 0 → suspects n u a b ≡ 1
-    unfolding waits
     a-knows e none =
         by_cases (dec_lt 0 (tests_made n u a)) s.finding.found
         (λ m.
         let at = (s.finding.passes.testing a a<n live-a (omega (arith, two-at board))).1 in
-        let wait : waits n u a ≡ true = rw (run.plain.lives a a<n, live-a, at) refl in
         let zero : turns_made n u x ≡ 0 = rw (← e) (omega (arith, none, rw (← e) at (going run))) in
-        let first = sweep-first n begins (waits n u) (turns_made n u) p.last x run.fits run.sweep (next run) a a<n wait
-        (omega (arith, zero)) in
+        let first = grant-first run a a<n (live-waits run a a<n live-a at) (omega (arith, zero)) in
         absurd (omega (arith, rw (← e) at first, d-last begins s.from, place-zero n a begins a<n s.from)))
 
     first-heard : 1 ≤ tests_made n u' d → suspects n u' d b ≡ 1
@@ -138,10 +133,10 @@ module _ {n b : ℕ} (board : Board n b) where
     pub finding-first-closes : round_over n u' ≡ true → (begins' : ℕ) × SpreadFirst begins' 0 (grant_turn Ring n p)
     finding-first-closes over =
         let on = finding-closes board s.finding over in
-        let ended = all-finished Ring n L u' (kept run).plain over d d<n live-d in
+        let ended = all-ended run over d d<n live-d in
         let pass = passes-on run (two_before board) s.finding.passes in
         let made =
-        (made-most n L (two_before board) (next_distance n u') (tests_made n u') (finished n u') pass d d<n live-d).1 ended in (
+        (made-most pass d d<n live-d).1 ended in (
           on.0,
           record {
             spread = on.1;
@@ -181,16 +176,12 @@ module _ {n b : ℕ} (board : Board n b) where
     abbrev v : List ℕ
     v = q.state.table
 
-    waiting-at : (i : ℕ) → i < n → finished n v i ≡ 0 → waits n v i ≡ true
-    unfolding waits
-    waiting-at i h e = rw (s.run.plain.lives i h, e) refl
-
     -- d stands behind a in the going round, at the last place
     earlier : stations_before n begins a < stations_before n begins d
     earlier =
         let sweep = s.run.sweep in
-        let wait-a = waiting-at a a<n (omega arith) in
-        let wait-d = waiting-at d d<n (omega arith) in
+        let wait-a = live-waits s.run a a<n refl (omega arith) in
+        let wait-d = live-waits s.run d d<n refl (omega arith) in
         let one : turns_made n v a ≡ 1 = omega arith in
         let low : 1 ≤ sweep.sweep = omega (arith, sweep.most a a<n, one) in
         let ahead : sweep.passed ≤ stations_before n begins d =

@@ -21,9 +21,9 @@ use Rattle.single_crash.specs.Sweeps.{turns_made}
 use Rattle.single_crash.specs.Setting.{Sound, crash_at, behind_crash, RoundsSince, KnownDead}
 use Rattle.single_crash.specs.Ring.{RingInGrants, RingInRounds}
 use Rattle.single_crash.proofs.SweepLaw.{grant_of}
-use Rattle.single_crash.proofs.Running.{Running, closes, goes_on, stays_known, runs_on}
+use Rattle.single_crash.proofs.Running.{Running, closes, goes_on, stays_known, runs_on, left_of}
 use Rattle.single_crash.proofs.Crashing.{all_but, sound-fresh, sound-run, crash-closes, crash-goes_on, crash-turns, known-dead}
-use Rattle.single_crash.proofs.OnRing.{left_of, one, one-less, Before, before-fresh, before-all}
+use Rattle.single_crash.proofs.OnRing.{one, one-less, Before, before-fresh, before-all}
 use Rattle.single_crash.proofs.RingStages.{Board, Waiting, Finding, Spread, circle, ahead, crew, two_before, left-most, left-made, finding-fresh}
 use Rattle.single_crash.proofs.RingStages.{waiting-on}
 use Rattle.single_crash.proofs.RingFirst.{WaitingFirst, FindingFirst, SpreadFirst, waiting-first-on, waiting-first-closes}

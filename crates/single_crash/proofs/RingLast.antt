@@ -8,17 +8,15 @@ use native.Mathlib.Decide.{ℕ_discrete}
 use native.Mathlib.Omega.{arith}
 use Rattle.lists.proofs.BoolLaws.{by_bool}
 use Rattle.lists.proofs.SearchLaws.{every-all}
-use Rattle.table.specs.Table.{finished_column, next_distance, finished, tests_made}
+use Rattle.table.specs.Table.{finished_column, finished}
 use Rattle.table.specs.Rules.{finished_if_live, live_finished, round_over}
 use Rattle.table.specs.declared.wiring.Wiring.TheVariants.{Ring}
-use Rattle.granter.specs.Grant.{waits}
 use Rattle.granter.specs.Fairness.{stations_before}
 use Rattle.granter.specs.Drive.{Stand}
-use Rattle.detection.proofs.RoundKnowledge.{all-finished}
 use Rattle.single_crash.specs.Sweeps.{turns_made}
-use Rattle.single_crash.proofs.Sweeps.{place-one, place-below, sweep-fewest, sweep-first}
+use Rattle.single_crash.proofs.Sweeps.{place-one, place-below}
 use Rattle.single_crash.proofs.SweepLaw.{grant_of}
-use Rattle.single_crash.proofs.Running.{Running, some-live, chosen, kept, heads, next, moved}
+use Rattle.single_crash.proofs.Running.{Running, some-live, chosen, kept, heads, moved, grant-first, grant-fewest, live-waits, all-ended}
 use Rattle.single_crash.proofs.Passes.{made-most}
 use Rattle.single_crash.proofs.OnRing.{PassesOf, passes-on, one}
 
@@ -32,7 +30,7 @@ module _ {n : ℕ} {L : ℕ → Bool} {begins : ℕ} {p : Stand} (r : Running Ri
       by_cases (ℕ_discrete g z) (λ e. e)
       (λ k.
       let same = (heads r).others z finished_column (λ e. k (sym e)) (omega arith) in
-      let ended = all-finished Ring n L t' (kept r).plain over z hz lz in
+      let ended = all-ended r over z hz lz in
       absurd (omega (arith, open-still)))
 
   -- where z finishes, all others have
@@ -40,11 +38,10 @@ module _ {n : ℕ} {L : ℕ → Bool} {begins : ℕ} {p : Stand} (r : Running Ri
     twice : turns_made n t g ≡ 1
     twice =
         let now = passes-on r one pass in
-        let made = (made-most n L one (next_distance n t') (tests_made n t') (finished n t') now z hz lz).1 ended in
+        let made = (made-most now z hz lz).1 ended in
         omega (arith, (moved r).own, rw e at made, rw e at ended)
 
     others-ended : (i : ℕ) → i < n → L i ≡ true → finished n t' i ≡ 1
-    unfolding waits
     others-ended i h l =
         by_cases (ℕ_discrete i g) (λ q. ap (λ (x : ℕ). finished n t' x) (q ∙ sym e) ∙ ended)
         (λ q.
@@ -52,11 +49,10 @@ module _ {n : ℕ} {L : ℕ → Bool} {begins : ℕ} {p : Stand} (r : Running Ri
         by_cases (ℕ_discrete (finished n t i) 1) (λ x. same ∙ x)
         (λ x.
         let none : finished n t i ≡ 0 = omega (arith, pass.range i h) in
-        let wait : waits n t i ≡ true = rw (r.plain.lives i h, l, none) refl in
-        let chain = next r in
-        let few = sweep-fewest n begins (waits n t) (turns_made n t) p.last g r.fits r.sweep chain i h wait in
-        let most = (made-most n L one (next_distance n t) (tests_made n t) (finished n t) pass i h l).0 in
-        let first = sweep-first n begins (waits n t) (turns_made n t) p.last g r.fits r.sweep chain i h wait (omega (arith, twice)) in
+        let wait = live-waits r i h l none in
+        let few = grant-fewest r i h wait in
+        let most = (made-most pass i h l).0 in
+        let first = grant-first r i h wait (omega (arith, twice)) in
         absurd (q (place-one n begins i g r.fits h (chosen r).0
         (omega (arith, rw e at last, place-below n begins i r.fits h))))))
 

@@ -9,18 +9,13 @@ use native.Mathlib.Decide.{dec_lt, ℕ_discrete}
 use native.Mathlib.Omega.{arith}
 use borrow.Author.Tests.{le-ltb, ne_eqb}
 use lib.Dec.{leb, eqb}
-use lib.ListN.{get_or}
 use Rattle.lists.specs.Sums.{bit}
 use Rattle.lists.proofs.BoolLaws.{by_bool}
-use Rattle.lists.specs.Search.{list_of}
-use Rattle.lists.proofs.SearchLaws.{list_of-at}
 use Rattle.lists.proofs.SumLaws.{sum_by, sum-add, sum-const}
 use Rattle.table.specs.Sizes.{is_size}
-use Rattle.table.specs.Table.{head, stride, cell, finished_column, next_distance, finished, tests_made, suspects, live}
-use Rattle.table.specs.Rules.{not_live, round_over}
-use Rattle.table.specs.Properties.{exact_row}
+use Rattle.table.specs.Table.{head, stride, cell, finished_column, finished, tests_made, suspects}
+use Rattle.table.specs.Rules.{round_over}
 use Rattle.table.specs.Fresh.{fresh_table}
-use Rattle.table.proofs.CellLaws.{row_at}
 use Rattle.table.specs.declared.wiring.Wiring.TheVariants.{Ring}
 use Rattle.plant.specs.Entry.{state_of}
 use Rattle.station.proofs.WiredLaws.{place_before, place_behind}
@@ -28,18 +23,16 @@ use Rattle.plant.specs.Turn.{crash}
 use Rattle.granter.specs.Grant.{no_grant, waits, following, last_check}
 use Rattle.granter.specs.Fairness.{stations_before}
 use Rattle.granter.specs.Drive.{Stand, stand_at, grant_turn, after_grants}
-use Rattle.detection.proofs.RoundKnowledge.{all-finished}
 use Rattle.single_crash.specs.Sweeps.{turns_made}
 use Rattle.single_crash.specs.Setting.{Sound, crash_at, behind_crash, RoundsSince, KnownDead}
 use Rattle.single_crash.specs.Ring.{RingNoFewerGrants, RingNoFewerRounds}
-use Rattle.single_crash.proofs.Sweeps.{sweep-fewest, sweep-first}
 use Rattle.single_crash.proofs.SweepLaw.{none-made}
 use Rattle.single_crash.proofs.SweepLaw.{grant_of}
-use Rattle.single_crash.proofs.Running.{Running, chosen, next, moved, goes_on}
-use Rattle.single_crash.proofs.Crashing.{everyone, all_but, crash-plain, crash-same, crash-turns, crash-goes_on}
+use Rattle.single_crash.proofs.Running.{Running, chosen, moved, goes_on, grant-first, grant-fewest, live-waits, left_of}
+use Rattle.single_crash.proofs.Crashing.{everyone, all_but, crash-same, crash-turns, crash-goes_on, stays-open, not-known}
 use Rattle.single_crash.proofs.Passes.{made-most, turns_left}
 use Rattle.single_crash.proofs.Around as around
-use Rattle.single_crash.proofs.OnRing.{left_of, one, Before, one-less, none-left, before-on}
+use Rattle.single_crash.proofs.OnRing.{one, Before, one-less, none-left, before-on}
 use Rattle.single_crash.proofs.RingStages.{Board, crew, at_place, sum-at, crash-waiting}
 use Rattle.single_crash.proofs.RingKnown.{sound-before}
 use Rattle.single_crash.proofs.RingSlow.{WaitingSlow, Slow, slow_waiting, slow-unaware, slow-rounds, slow-after}
@@ -86,20 +79,16 @@ module _ (n : ℕ) (size : is_size n ≡ true) (four : 4 ≤ n) where
     open grant_of Ring n p use {before as t, board as g, turned as t'}
 
     x-waits : waits n t x ≡ true
-    unfolding waits
-    x-waits =
-        let zero : finished n t x ≡ 0 = omega (arith, s.turns x (omega arith), none) in
-        rw (s.before.run.plain.lives x (omega arith), zero) refl
+    x-waits = live-waits s.before.run x (omega arith) refl (omega (arith, s.turns x (omega arith), none))
 
     at-x : g ≡ x
     at-x =
         let r = s.before.run in
-        let chain = next r in
         let g<n = (chosen r).0 in
         let zero : turns_made n t x ≡ 0 = s.turns x (omega arith) ∙ none in
-        let few = sweep-fewest n 0 (waits n t) (turns_made n t) p.last g r.fits r.sweep chain x (omega arith) x-waits in
+        let few = grant-fewest r x (omega arith) x-waits in
         let same : turns_made n t g ≡ 0 = omega arith in
-        let first = sweep-first n 0 (waits n t) (turns_made n t) p.last g r.fits r.sweep chain x (omega arith) x-waits (same ∙ sym zero) in
+        let first = grant-first r x (omega arith) x-waits (same ∙ sym zero) in
         let low : g ≤ x = omega (arith, place-is g g<n, place-is x (omega arith)) in
         by_cases (dec_lt g x) (λ l. absurd (omega (arith, had g l, s.turns g g<n))) (λ l. omega arith)
 
@@ -193,13 +182,7 @@ module _ (n : ℕ) (size : is_size n ≡ true) (four : 4 ≤ n) where
       omega (arith, first-1.turns i h)
 
   crash-open : round_over n v' ≡ false
-  crash-open =
-      by_bool (round_over n v')
-      (λ over.
-      let done = all-finished Ring n L v' (crash-plain 2 (crew board) hb run) over 3 (omega arith) refl in
-      let same = crash-same 2 (crew board) hb run 3 finished_column (omega arith) (omega arith) in
-      absurd (omega (arith, done, same, unmade 3 (omega arith) (omega arith))))
-      (λ o. o)
+  crash-open = stays-open 2 (crew board) hb run 3 (omega arith) (omega arith) (λ e. omega (arith, e, unmade 3 (omega arith) (omega arith)))
 
   abbrev q : Stand
   q = crash_at Ring n p₂ 2
@@ -235,7 +218,7 @@ module _ (n : ℕ) (size : is_size n ≡ true) (four : 4 ≤ n) where
   unfolding both-made
   tested =
       let turns : turns_made n v 1 ≡ 1 = first-1.turns 1 (omega arith) in
-      let made = made-most n everyone one (next_distance n v) (tests_made n v) (finished n v) first-1.before.passes 1 (omega arith) refl in
+      let made = made-most first-1.before.passes 1 (omega arith) refl in
       let one-test : tests_made n v 1 ≡ 1 =
       by_cases (ℕ_discrete (finished n v 1) 1) (λ e. absurd (omega (arith, made.1 e)))
       (λ e. omega (arith, first-1.before.passes.range 1 (omega arith))) in
@@ -279,14 +262,7 @@ module _ (n : ℕ) (size : is_size n ≡ true) (four : 4 ≤ n) where
   rounds-closed = let two = slow-rounds (board n size four) _ _ (slow-end n size four) in omega (arith, two)
 
   unknown : ¬ (KnownDead n end 2)
-  unfolding exact_row
-  unknown known =
-      let mine : live n end 0 ≡ true = known.others_live 0 (omega arith) in
-      let dead : not_live n end 2 ≡ true = rw (known.others_live 2 (omega arith)) refl in
-      let row = ap (λ (r : List ℕ). get_or r 2 0) (known.exact 0 (omega arith) mine) in
-      let exact : ℕ → ℕ = λ j. bit (not_live n end j) in
-      let one : get_or (list_of exact n) 2 0 ≡ 1 = list_of-at exact n 2 (hb n size four) ∙ ap bit dead in
-      omega (arith, unaware, row_at n end 0 2 (hb n size four), row, one)
+  unknown = not-known n 0 2 end (omega arith) (hb n size four) (omega arith) unaware
 
   sound : Sound Ring n (started n)
   sound = fresh-is-sound Ring n 0 0 no_grant size (none-fits n)

@@ -1,7 +1,7 @@
 -- On the ring the bound is reached: where the crash's round began with d, the second board before b, and only d and a, the one before b, have made a
 -- turn in it, d comes to know b last of all, in the first sweep of the third round.
 -- Assumes nothing.
-use mathlib.Core.Path.{◌≡◌, refl, sym, ap, ◌∙◌}
+use mathlib.Core.Path.{◌≡◌, sym, ap, ◌∙◌}
 use mathlib.Core.Logic.{◌≢◌, by_cases}
 use mathlib.Core.Bool.{true, false}
 use mathlib.Core.List.{List}
@@ -15,17 +15,16 @@ use Rattle.table.proofs.SizeLaws.{size-bounds}
 use Rattle.table.specs.declared.wiring.Wiring.TheVariants.{Ring}
 use Rattle.plant.specs.Round.{reset_lines}
 use Rattle.plant.proofs.RoundLaws.{reset-other}
-use Rattle.granter.specs.Grant.{waits, following}
+use Rattle.granter.specs.Grant.{following}
 use Rattle.granter.specs.Fairness.{stations_before}
 use Rattle.granter.specs.Drive.{Stand, granted_at, grant_turn, after_grants}
-use Rattle.single_crash.specs.Sweeps.{turns_made}
-use Rattle.single_crash.proofs.Sweeps.{place-one, place-below, sweep-most}
+use Rattle.single_crash.proofs.Sweeps.{place-one, place-below}
 use Rattle.single_crash.proofs.SweepLaw.{grant_of}
-use Rattle.single_crash.proofs.Running.{Running, chosen, is_live, going, heads, next, closes, goes_on}
+use Rattle.single_crash.proofs.Running.{Running, chosen, is_live, going, heads, next, closes, goes_on, grant-most, live-waits, left_of}
 use Rattle.single_crash.proofs.Passes.{made-most}
 use Rattle.single_crash.proofs.Around.{BeginsAt, board-below, begins-fits, place-of, place-zero, place-next, before-below, before-next}
 use Rattle.single_crash.proofs.Around.{before-second, both-apart, other-next, next-one, begins-at}
-use Rattle.single_crash.proofs.OnRing.{left_of, ring-turn, counts-at, one, one-less, none-left}
+use Rattle.single_crash.proofs.OnRing.{ring-turn, counts-at, one, one-less, none-left}
 use Rattle.single_crash.proofs.RingStages.{Board, Waiting, Finding, Spread, circle, ahead, two_before, c-below, c-lives}
 use Rattle.single_crash.proofs.Crashing.{other-lives, but-dead, but-apart}
 use Rattle.single_crash.proofs.RingStages.{two-at, one-at, left-fresh, finding-fresh, waiting-on, finding-on, finding-closes, spread-on, spread-open}
@@ -169,7 +168,6 @@ module _ {n b : ℕ} (board : Board n b) where
 
     -- d makes its test before a does
     d-first : x ≡ d → tests_made n u x ≡ 0 → tests_made n u a ≡ 0
-    unfolding waits
     d-first e none =
         let sweep = run.sweep in
         let wait = (chosen run).1 in
@@ -180,16 +178,15 @@ module _ {n b : ℕ} (board : Board n b) where
         let first : sweep.sweep ≡ 1 = omega (arith, sweep.to_come x x<n wait (omega arith), x-going) in
         by_cases (ℕ_discrete (finished n u a) 0)
         (λ f.
-        let wait-a : waits n u a ≡ true = rw (run.plain.lives a a<n, live-a, f) refl in
-        omega (arith, sweep.to_come a a<n wait-a (omega arith)))
+        omega (arith, sweep.to_come a a<n (live-waits run a a<n live-a f) (omega arith)))
         (λ f.
-        let made = made-most n L (two_before board) (next_distance n u) (tests_made n u) (finished n u) s.finding.passes a a<n live-a in
+        let made = made-most s.finding.passes a a<n live-a in
         absurd (omega (arith, sweep.most a a<n, made.1 (omega (arith, s.finding.passes.range a a<n)), two-at board))))
 
     -- c makes its test before a makes its second one
     c-first : tests_made n u x ≡ 0 → tests_made n u a ≤ 1
     c-first none =
-        let most = sweep-most n begins (waits n u) (turns_made n u) p.last x run.fits run.sweep (next run) a a<n in
+        let most = grant-most run a a<n in
         omega (arith, x-going)
 
     tests-a : x ≢ a → tests_made n u' a ≡ tests_made n u a

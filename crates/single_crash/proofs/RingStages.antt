@@ -25,19 +25,18 @@ use Rattle.granter.specs.Grant.{waits, following}
 use Rattle.granter.specs.Fairness.{stations_before}
 use Rattle.granter.specs.Drive.{Stand, granted_at, grant_turn}
 use Rattle.detection.proofs.TurnEffect.{Exact}
-use Rattle.detection.proofs.RoundKnowledge.{all-finished}
 use Rattle.single_crash.specs.Sweeps.{turns_made}
 use Rattle.single_crash.specs.Setting.{crash_at}
-use Rattle.single_crash.proofs.Sweeps.{place-one, place-below, sweep-fewest, sweep-first, sweep-most}
+use Rattle.single_crash.proofs.Sweeps.{place-one, place-below}
 use Rattle.single_crash.proofs.SweepLaw.{grant_of}
-use Rattle.single_crash.proofs.Running.{Crew, Running, Closed, WentOn, chosen, is_live, going, kept, heads, next, closes, goes_on}
+use Rattle.single_crash.proofs.Running.{Crew, Running, Closed, WentOn, chosen, is_live, going, kept, heads, next, closes, goes_on, grant-first, grant-fewest, grant-most, live-waits, all-ended, left_of}
 use Rattle.single_crash.proofs.Crashing.{all_but, other-lives, but-dead, but-apart, others-crew, crash-same, crash-goes_on}
 use Rattle.single_crash.proofs.Passes.{Reaches, turns_left}
 use Rattle.single_crash.proofs.Around.{board_at, BeginsAt, board-below, begins-fits, place-of, place-zero, place-other, place-next}
 use Rattle.single_crash.proofs.Around.{before-below, before-next, other-next, before-second, before-apart, behind-below, behind-apart, begins-at}
 use Rattle.single_crash.proofs.Around.{both-apart}
 use Rattle.single_crash.proofs.Around as around
-use Rattle.single_crash.proofs.OnRing.{PassesOf, left_of, passes-fresh, counts-at, finds-at, meets-at, passes-on, had-left, one, reach-one, Before}
+use Rattle.single_crash.proofs.OnRing.{PassesOf, passes-fresh, counts-at, finds-at, meets-at, passes-on, had-left, one, reach-one, Before}
 
 -- a number at place p only
 abbrev pub at_place : ℕ → ℕ → ℕ → ℕ
@@ -284,11 +283,11 @@ module _ {n b : ℕ} (board : Board n b) where
         (λ d.
         let r = s.run in
         let h = heads r in
-        let ended : finished n t' a ≡ 1 = all-finished Ring n L t' (kept r).plain over a a-below a-lives in
+        let ended : finished n t' a ≡ 1 = all-ended r over a a-below a-lives in
         let same = h.others a finished_column (λ e. d (sym e)) (omega arith) in
         let after = by_cases (dec_lt (tests_made n t a) 2) (λ l. absurd (omega (arith, s.passes.testing a a-below a-lives (omega (arith, two-at)))))
         (λ l. s.passes.tested a a-below a-lives (omega (arith, two-at))) in
-        let most = sweep-most n begins (waits n t) (turns_made n t) p.last g r.fits r.sweep (next r) a a-below in
+        let most = grant-most r a a-below in
         absurd (omega (arith, most, after, two-at, one-at g d, had-left r two_before s.passes, going r)))
 
     -- it and the one behind b know b then, and the next round begins at b
@@ -320,7 +319,7 @@ module _ {n b : ℕ} (board : Board n b) where
 
         ended : 2 ≤ tests_made n t' a
         ended =
-            let done = all-finished Ring n L t' (kept s.run).plain over a a-below a-lives in
+            let done = all-ended s.run over a a-below a-lives in
             by_cases (dec_lt 1 (tests_made n t' a)) (λ m. m)
             (λ m. absurd (omega (
               arith,
@@ -356,24 +355,19 @@ module _ {n b : ℕ} (board : Board n b) where
     x-lives = other-lives b x (λ q. omega (arith, x-place, rw (← q) at (place-zero n b begins board.hb s.from)))
 
     x-waits : waits n u x ≡ true
-    unfolding waits
-    x-waits =
-        let f = s.fresh x x-below x-lives (omega (arith, x-place)) in
-        rw (s.run.plain.lives x x-below, x-lives, f.2) refl
+    x-waits = live-waits s.run x x-below x-lives (s.fresh x x-below x-lives (omega (arith, x-place))).2
 
     -- so it is granted
     at-next : e ≡ x
     at-next =
         let r = s.run in
         let f = s.fresh x x-below x-lives (omega (arith, x-place)) in
-        let chain = next r in
-        let few = sweep-fewest n begins (waits n u) (turns_made n u) p.last e r.fits r.sweep chain x x-below x-waits in
+        let few = grant-fewest r x x-below x-waits in
         let none : tests_made n u e ≡ 0 = omega arith in
         let low : suc j ≤ place e =
         by_cases (dec_lt j (place e)) (λ l. l)
         (λ l. absurd (omega (arith, none, s.tested e below (is_live r) (omega arith)))) in
-        let high = sweep-first n begins (waits n u) (turns_made n u) p.last e r.fits r.sweep chain x x-below x-waits
-        (omega (arith, none, going r)) in
+        let high = grant-first r x x-below x-waits (omega (arith, none, going r)) in
         place-one n begins e x fits below x-below (omega (arith, x-place))
 
     pub e-place : place e ≡ suc j
@@ -410,7 +404,7 @@ module _ {n b : ℕ} (board : Board n b) where
     spread-open =
         by_bool (round_over n u')
         (λ over.
-        let done = all-finished Ring n L u' (kept s.run).plain over a a-below a-lives in
+        let done = all-ended s.run over a a-below a-lives in
         let far = place-of n b begins board.hb s.from (n - 1) (omega arith) in
         let other : a ≢ e = λ q. omega (arith, far, e-place, rw q at far) in
         let same = (heads s.run).others a finished_column other (omega arith) in

@@ -1,33 +1,39 @@
 -- A plant under the bus master in which no live board suspects a live one: what a grant with its turn does, and a crash, whatever the wiring.
 -- Assumes nothing.
 use mathlib.Core.Path.{◌≡◌, refl, sym, ◌∙◌}
+use mathlib.Core.Logic.{◌≢◌}
 use mathlib.Core.Bool.{Bool, true, false}
 use mathlib.Core.List.{List}
 use Prim.Native.Nat.{ℕ, zero, suc, ◌+◌, ◌≤◌, ◌<◌}
 use native.Mathlib.Numerals.{add-one}
 use native.Mathlib.Omega.{arith}
+use Rattle.lists.specs.Sums.{sum_below}
 use Rattle.lists.proofs.BoolLaws.{by_bool}
 use Rattle.lists.proofs.SearchLaws.{every-all, every-not}
 use Rattle.table.specs.Sizes.{is_size}
-use Rattle.table.specs.Table.{finished}
+use Rattle.table.specs.Table.{finished, suspects}
 use Rattle.table.specs.Rules.{line_rules, not_live, some_live, round_over}
 use Rattle.table.proofs.SizeLaws.{size-bounds}
 use Rattle.table.proofs.Accepting.{Accepted}
 use Rattle.table.proofs.CellLaws.{line-holds}
 use Rattle.table.specs.declared.wiring.Wiring.{Wiring}
-use Rattle.plant.specs.Turn.{kind_turn, makes_test}
+use Rattle.station.specs.Wired.{wired_station}
+use Rattle.plant.specs.Turn.{kind_turn, next_test, makes_test}
 use Rattle.plant.specs.Round.{reset_lines, after_round}
 use Rattle.plant.specs.Entry.{state_of, acted, after}
 use Rattle.plant.proofs.RulesKept.{unfinished-open}
 use Rattle.plant.proofs.RoundLaws.{Reset, reset-cells}
 use Rattle.plant.proofs.TurnHeads.{Heads}
 use Rattle.granter.specs.Grant.{waits, following, last_check}
+use Rattle.granter.specs.Fairness.{stations_before}
 use Rattle.granter.specs.Drive.{Stand, stand_at, grant_turn, after_grants}
 use Rattle.granter.proofs.GrantLaws.{waits-parts, station-fits}
 use Rattle.detection.proofs.TurnEffect.{Plain, Company, Grown, Exact, TurnKept, turn-effect}
-use Rattle.detection.proofs.RoundKnowledge.{reset-rows}
+use Rattle.detection.proofs.RoundKnowledge.{reset-rows, all-finished}
+use Rattle.witness.proofs.Moves.{byte_after, finish-bytes, test-bytes}
 use Rattle.single_crash.specs.Sweeps.{turns_made}
-use Rattle.single_crash.proofs.Sweeps.{InSweep, sweep-start, Next, Moved, sweep-next}
+use Rattle.single_crash.proofs.Sweeps.{InSweep, sweep-start, Next, Moved, sweep-next, sweep-fewest, sweep-first, sweep-most}
+use Rattle.single_crash.proofs.Passes.{turns_left, left-turn}
 use Rattle.single_crash.proofs.SweepLaw.{Going, grant_of}
 use Rattle.granter.proofs.Fair.{following-most}
 use Rattle.single_crash.proofs.SweepLaw as law
@@ -91,6 +97,10 @@ begin {n = n} crew p plain fresh fits = record {
       (λ i h. omega (arith, (fresh i h).untested, (fresh i h).unfinished));
 }
 
+-- how many turns are left in the round
+abbrev pub left_of : ℕ → (ℕ → Bool) → (ℕ → ℕ) → List ℕ → ℕ
+left_of n L reach t = sum_below (turns_left L reach (turns_made n t)) n
+
 -- where a round closes, with last number g behind it
 pub closing : {w : Wiring} {n : ℕ} {L : ℕ → Bool} → Crew w n L → (t' : List ℕ) → Plain w n L t' → (p : Stand) (tests g : ℕ)
     → last_check n g ≡ Ok tt → Closed w n L t' g p (stand_at (state_of (reset_lines n t') (p.state.rounds + 1) tests) g)
@@ -138,6 +148,43 @@ module _ {w : Wiring} {n : ℕ} {L : ℕ → Bool} {begins : ℕ} {p : Stand} (r
   pub moved : Moved n (waits n t) (waits n t') (turns_made n t) (turns_made n t') g
   moved = law.moved now
 
+  -- of those that wait nobody has made fewer turns than the board granted, and it comes first of those that have made as many
+  pub grant-fewest : (i : ℕ) → i < n → waits n t i ≡ true → turns_made n t g ≤ turns_made n t i
+  grant-fewest = sweep-fewest r.fits r.sweep next
+
+  pub grant-first : (i : ℕ) → i < n → waits n t i ≡ true → turns_made n t g ≡ turns_made n t i
+      → stations_before n begins g ≤ stations_before n begins i
+  grant-first = sweep-first r.fits r.sweep next
+
+  -- nobody has made two turns more
+  pub grant-most : (i : ℕ) → i < n → turns_made n t i ≤ suc (turns_made n t g)
+  grant-most = sweep-most r.fits r.sweep next
+
+  -- a live board that has not finished waits
+  pub live-waits : (i : ℕ) → i < n → L i ≡ true → finished n t i ≡ 0 → waits n t i ≡ true
+  unfolding waits
+  live-waits i h l f = rw (r.plain.lives i h, l, f) refl
+
+  -- a pass is finished or not
+  pub has-ended : (i : ℕ) → i < n → finished n t i ≢ 0 → finished n t i ≡ 1
+  has-ended i h f = omega (arith, f, (r.plain.lines.1 i h).pass.finished_range)
+
+  -- the rows after a turn that makes no test, and after one that makes one
+  pub rows-same : makes_test w n t g ≡ false → (k j : ℕ) → j < n → suspects n t' k j ≡ suspects n t k j
+  rows-same = finish-bytes w n L t g r.crew.size r.plain r.crew.company chosen.0 is_live going
+
+  pub rows-tested : makes_test w n t g ≡ true → (k j : ℕ) → k < n → j < n
+      → let y = wired_station w n g (next_test w n t g) in suspects n t' k j ≡ byte_after (L y) (suspects n t) g y k j
+  rows-tested = test-bytes w n L t g r.crew.size r.plain r.crew.company chosen.0 is_live going
+
+  -- where the round closes all live boards have finished
+  pub all-ended : round_over n t' ≡ true → (i : ℕ) → i < n → L i ≡ true → finished n t' i ≡ 1
+  all-ended = all-finished w n L t' kept.plain
+
+  -- the turns left, where each live board i is to make reach(i) and one more
+  pub turn-less : (reach : ℕ → ℕ) → turns_made n t g ≤ reach g → suc (left_of n L reach t') ≡ left_of n L reach t
+  turn-less reach left = left-turn n L reach (turns_made n t) (turns_made n t') g chosen.0 is_live left moved.own moved.others
+
   -- by it the round closes, or goes on
   pub closes : round_over n t' ≡ true → Closed w n L t' g p p'
   unfolding grant_turn after acted after_round
@@ -156,7 +203,7 @@ module _ {w : Wiring} {n : ℕ} {L : ℕ → Bool} {begins : ℕ} {p : Stand} (r
           last_fits = station-fits n g chosen.0;
           fits = r.fits;
           sweep =
-              sweep-next n begins (waits n t) (turns_made n t) p.last g r.fits r.sweep next (waits n t') (turns_made n t')
+              sweep-next r.fits r.sweep next
               (size-bounds n r.crew.size).1 moved;
         };
       })

@@ -139,7 +139,7 @@ module _ {w : Wiring} {n begins : ℕ} {p : Stand} (now : Going w n begins p) wh
       someone = (not-ended n rounds p'.state unended).1;
       last_fits = station-fits n g chosen.0;
       sweep =
-          rw turned (sweep-next n begins (waits n t) (turns_made n t) p.last g fits now.sweep next (waits n t') (turns_made n t')
+          rw turned (sweep-next fits now.sweep next
           (size-bounds n now.ok.size).1 moved);
     }
 
@@ -180,12 +180,10 @@ module _ (w : Wiring) (n : ℕ) (p : Stand) (granted : grant_check w n p.state.t
   in-turn k on =
       let q = after_grants w n p k in
       let now = going-after k on in
-      let wait = waits n q.state.table in
-      let made = turns_made n q.state.table in
       let chain = next now in
       record {
-        fewest = sweep-fewest n begins wait made q.last (granted_at n q) fits now.sweep chain;
-        first = sweep-first n begins wait made q.last (granted_at n q) fits now.sweep chain;
+        fewest = sweep-fewest fits now.sweep chain;
+        first = sweep-first fits now.sweep chain;
       }
 
 -- the law, an end in itself

@@ -17,9 +17,9 @@ use Rattle.station.proofs.WiredLaws.{ring-station}
 use Rattle.plant.specs.Turn.{next_test, makes_test}
 use Rattle.plant.proofs.NextTest.{ring-next}
 use Rattle.granter.specs.Drive.{Stand}
-use Rattle.witness.proofs.Moves.{byte_after, finish-bytes, test-bytes}
+use Rattle.witness.proofs.Moves.{byte_after}
 use Rattle.single_crash.proofs.SweepLaw.{grant_of}
-use Rattle.single_crash.proofs.Running.{Running, chosen, is_live, going}
+use Rattle.single_crash.proofs.Running.{Running, rows-same, rows-tested}
 
 module _ {n : ℕ} {L : ℕ → Bool} {begins : ℕ} {p : Stand} (r : Running Ring n L begins p) (b : ℕ) (hb : b < n) where
   open grant_of Ring n p use {before as t, board as g, turned as t'}
@@ -30,9 +30,7 @@ module _ {n : ℕ} {L : ℕ → Bool} {begins : ℕ} {p : Stand} (r : Running Ri
   makes-none far = rw (ring-next Ring n t g refl, end_ring Ring n refl) (le-ltb (next_distance n t g) n far)
 
   pub rows-stay : n ≤ next_distance n t g → (k : ℕ) → suspects n t' k b ≡ suspects n t k b
-  rows-stay far k =
-      finish-bytes Ring n L t g r.crew.size r.plain r.crew.company (chosen r).0 (is_live r)
-      (going r) (makes-none far) k b hb
+  rows-stay far k = rows-same r (makes-none far) k b hb
 
   -- it tests the board m places on
   module _ (m : ℕ) (q : next_distance n t g ≡ m) (low : m < n) where
@@ -47,10 +45,7 @@ module _ {n : ℕ} {L : ℕ → Bool} {begins : ℕ} {p : Stand} (r : Running Ri
     station = ring-station Ring n g (next_test Ring n t g) refl ∙ ap (λ (m : ℕ). (g + m) % n) (ring-next Ring n t g refl ∙ q)
 
     bytes : (k : ℕ) → k < n → suspects n t' k b ≡ byte_after (L y) (suspects n t) g y k b
-    bytes k h =
-        rw station at
-        (test-bytes Ring n L t g r.crew.size r.plain r.crew.company (chosen r).0 (is_live r)
-        (going r) makes k b h hb)
+    bytes k h = rw station at (rows-tested r makes k b h hb)
 
     -- which is live
     pub unaware-met : L y ≡ true → (k : ℕ) → k < n → suspects n t k b ≡ 0 → (k ≡ g → suspects n t y b ≡ 0) → (k ≡ y → suspects n t g b ≡ 0)
