@@ -16,7 +16,7 @@ use Rattle.lists.proofs.BoolLaws.{by_bool}
 use Rattle.lists.specs.Search.{list_of}
 use Rattle.lists.proofs.SearchLaws.{both, list_of-length, list_of-at}
 use Rattle.table.specs.Sizes.{is_size}
-use Rattle.table.specs.Table.{head, stride, cell, status_column, finished_column, tests_column, finished, suspects, live, row}
+use Rattle.table.specs.Table.{head, stride, cell, status_column, next_column, finished_column, tests_column, finished, suspects, live, row}
 use Rattle.table.specs.Table.{status_crashed}
 use Rattle.table.specs.Rules.{not_live, round_over}
 use Rattle.table.specs.Properties.{exact_row}
@@ -37,7 +37,7 @@ use Rattle.detection.proofs.DetectionClaim.{first_round}
 use Rattle.single_crash.specs.Sweeps.{turns_made}
 use Rattle.single_crash.specs.Setting.{Sound, crash_at, KnownDead}
 use Rattle.single_crash.proofs.Sweeps.{sweep-fewer}
-use Rattle.single_crash.proofs.Running.{Crew, Running, Closed, WentOn, begin, closing}
+use Rattle.single_crash.proofs.Running.{Crew, Running, Closed, WentOn, begin, closing, SamePass}
 
 -- every board, and every board but b
 abbrev pub everyone : ℕ → Bool
@@ -55,7 +55,7 @@ but-dead b = rw (eq-eqb b b refl) refl
 pub but-apart : (b i : ℕ) → all_but b i ≡ true → i ≢ b
 but-apart b i l e = true≢false (sym l ∙ rw e (but-dead b))
 
-pub everyone-crew : (w : Wiring) (n : ℕ) → is_size n ≡ true → Crew w n everyone
+everyone-crew : (w : Wiring) (n : ℕ) → is_size n ≡ true → Crew w n everyone
 everyone-crew w n size =
     let two = (size-bounds n size).0 in
     record {
@@ -133,12 +133,19 @@ module _ {w : Wiring} {n : ℕ} (b : ℕ) {begins : ℕ} {q : Stand} (crew : Cre
   pub crash-same : (k c : ℕ) → 1 ≤ c → c < stride n → cell n t' k c ≡ cell n t k c
   crash-same k c lo h = same k c h (λ e. omega arith)
 
+  pub crash-pass : (i : ℕ) → SamePass n t t' i
+  crash-pass i = record {
+    next = crash-same i next_column (omega arith) (omega arith);
+    made = crash-same i tests_column (omega arith) (omega arith);
+    done = crash-same i finished_column (omega arith) (omega arith);
+  }
+
   -- who waits then waited before
   crash-waited : (i : ℕ) → i < n → waits n t' i ≡ true → waits n t i ≡ true
   unfolding waits
   crash-waited i h e =
       let done = (both (live n t' i) (not (eqb (finished n t' i) 1)) e).1 in
-      rw (r.plain.lives i h, ← (crash-same i finished_column (omega arith) (omega arith))) done
+      rw (r.plain.lives i h, ← (crash-pass i).done) done
 
   abbrev q' : Stand
   q' = crash_at w n q b
@@ -161,7 +168,7 @@ module _ {w : Wiring} {n : ℕ} (b : ℕ) {begins : ℕ} {q : Stand} (crew : Cre
           fits = r.fits;
           sweep =
               sweep-fewer n begins (waits n t) (waits n t') (turns_made n t) (turns_made n t') q.last crash-waited
-              (λ i h. omega (arith, crash-same i finished_column (omega arith) (omega arith), crash-same i tests_column (omega arith) (omega arith)))
+              (λ i h. omega (arith, (crash-pass i).done, (crash-pass i).made))
               r.sweep;
         };
       })
@@ -176,15 +183,12 @@ module _ {w : Wiring} {n : ℕ} (b : ℕ) {begins : ℕ} {q : Stand} (crew : Cre
       by_bool (round_over n t')
       (λ over.
       let ended = all-finished w n (all_but b) t' crash-plain over i h (other-lives b i d) in
-      absurd (f (sym (crash-same i finished_column (omega arith) (omega arith)) ∙ ended)))
+      absurd (f (sym (crash-pass i).done ∙ ended)))
       (λ unclosed. unclosed)
 
   -- it makes no turn
   pub crash-turns : round_over n t' ≡ false → (i : ℕ) → turns_made n q'.state.table i ≡ turns_made n t i
-  crash-turns unclosed i =
-      let at = crash-same i in
-      rw (crash-goes_on unclosed).table
-      (omega (arith, at finished_column (omega arith) (omega arith), at tests_column (omega arith) (omega arith)))
+  crash-turns unclosed i = rw (crash-goes_on unclosed).table (omega (arith, (crash-pass i).done, (crash-pass i).made))
 
 -- where every live board suspects every dead one, b is known
 pub known-dead : (w : Wiring) (n b : ℕ) (t : List ℕ) → Plain w n (all_but b) t → Exact n (all_but b) t → KnownDead n t b

@@ -10,7 +10,7 @@ use native.Mathlib.Decide.{ℕ_discrete, dec_lt}
 use native.Mathlib.Omega.{arith}
 use Rattle.lists.proofs.BoolLaws.{by_bool}
 use Rattle.lists.proofs.SumLaws.{sum_by}
-use Rattle.table.specs.Table.{head, stride, cell, next_column, finished_column, tests_column, tests_made, suspects}
+use Rattle.table.specs.Table.{head, tests_made, suspects}
 use Rattle.table.specs.Rules.{round_over}
 use Rattle.table.specs.declared.wiring.Wiring.TheVariants.{Cube}
 use Rattle.table.proofs.Levels.{level-above}
@@ -23,9 +23,8 @@ use Rattle.granter.proofs.GrantLaws.{waits-parts}
 use Rattle.single_crash.specs.Sweeps.{turns_made}
 use Rattle.single_crash.specs.Setting.{Sound, crash_at, behind_crash, KnownDead}
 use Rattle.single_crash.specs.Cube.{CubeInGrants, CubeInRounds}
-use Rattle.single_crash.proofs.SweepLaw.{grant_of}
-use Rattle.single_crash.proofs.Running.{Running, closes, goes_on}
-use Rattle.single_crash.proofs.Crashing.{all_but, sound-fresh, sound-run, crash-same, crash-closes, crash-goes_on, known-dead}
+use Rattle.single_crash.proofs.Running.{Running, SamePass, by_round}
+use Rattle.single_crash.proofs.Crashing.{all_but, sound-fresh, sound-run, crash-same, crash-closes, crash-goes_on, known-dead, crash-pass}
 use Rattle.single_crash.proofs.Passes.{turns_left}
 use Rattle.single_crash.proofs.CubePace.{Cubic, OnPace, pace-start, pace-same, pace-paced}
 use Rattle.single_crash.proofs.CubeWays.{by_distance, distance-some, beside-of, digits-all}
@@ -46,22 +45,19 @@ module _ {n d b : ℕ} (c : Cubic n d) (hb : b < n) (round : ℕ) where
   phase-next : (k : ℕ) (p : Stand) → Phase n d b round k p → Phase n d b round (suc k) (grant_turn Cube n p)
   phase-next k p (same_round s le r e few) =
       let less = spread-less c hb r in
-      by_bool (round_over n (grant_of Cube n p).turned)
-      (λ over.
-      let w = closes r.running over in
+      by_round r.running
+      (λ over w.
       let left = spread-left c hb r over in
       next_round s le (spread-over c hb r over) (omega (arith, w.rounds)) (omega (arith, less, left)))
-      (λ on.
-      let w = goes_on r.running on in
+      (λ on w.
       same_round s le (spread-on c hb r on) (w.rounds ∙ e) (rw w.table (omega (arith, less))))
   phase-next k p (next_round s le r e few) =
       by_cases (dec_lt (turns_made n p.state.table (granted_at n p)) s)
       (λ l.
       let less = gather-less c hb le r l in
-      by_bool (round_over n (grant_of Cube n p).turned)
-      (λ over. all_know (gather-over c hb le r over))
-      (λ on.
-      let w = goes_on r.running on in
+      by_round r.running
+      (λ over w. all_know (gather-over c hb le r over))
+      (λ on w.
       next_round s le (gather-on c hb le r on) (omega (arith, w.rounds)) (rw w.table (omega (arith, less)))))
       (λ l. all_know (aware-on (gather-aware c hb le r (omega arith))))
   phase-next k p (all_know r) = all_know (aware-on r)
@@ -117,19 +113,14 @@ module _ {n d b : ℕ} (c : Cubic n d) (hb : b < n) (round : ℕ) where
     abbrev q' : Stand
     q' = crash_at Cube n q b
 
-    bytes : (k j : ℕ) → 1 ≤ j → j < stride n → cell n v k j ≡ cell n q.state.table k j
-    bytes = crash-same b (but-crew b c) hb w.running
+    same-pass : (i : ℕ) → SamePass n q.state.table v i
+    same-pass = crash-pass b (but-crew b c) hb w.running
 
     crash-pace : (i : ℕ) → i < n → i ≢ b → OnPace n d v i
-    crash-pace i h e =
-        pace-same v (bytes i finished_column (omega arith) (omega arith)) (bytes i tests_column (omega arith) (omega arith))
-        (bytes i next_column (omega arith) (omega arith)) (w.pace i h)
-
-    crash-tests : (i : ℕ) → tests_made n v i ≡ tests_made n q.state.table i
-    crash-tests i = bytes i tests_column (omega arith) (omega arith)
+    crash-pace i h e = pace-same (same-pass i) (w.pace i h)
 
     nobody : (x : ℕ) → x < n → suspects n v x b ≡ 0
-    nobody x h = bytes x (head + b) (omega arith) (omega arith) ∙ w.running.plain.accurate x b h hb refl refl
+    nobody x h = crash-same b (but-crew b c) hb w.running x (head + b) (omega arith) (omega arith) ∙ w.running.plain.accurate x b h hb refl refl
 
     found : Cut n d b q.state.table
     found = cut b c hb w.running w.pace
@@ -138,7 +129,7 @@ module _ {n d b : ℕ} (c : Cubic n d) (hb : b < n) (round : ℕ) where
     s = found.s
 
     ahead : (x : ℕ) → x < n → x ≢ b → s ≡ 0 → tests_made n v x < by_distance b x
-    ahead x h e z = omega (arith, crash-tests x, found.ahead x h e (rw z (mod-one _)))
+    ahead x h e z = omega (arith, (same-pass x).made, found.ahead x h e (rw z (mod-one _)))
 
     spread : (begins : ℕ) → Running Cube n (all_but b) begins q' → q'.state.table ≡ v → 1 ≤ s → Spread n d b s q'
     spread begins run is some = record {
@@ -148,15 +139,15 @@ module _ {n d b : ℕ} (c : Cubic n d) (hb : b < n) (round : ℕ) where
       near = rw is (record {
         behind = λ z h hz l e.
             let zero : h ≡ 0 = omega arith in
-            omega (arith, zero, crash-tests z, found.begun some z hz (beside-of z b (rw zero at e)));
+            omega (arith, zero, (same-pass z).made, found.begun some z hz (beside-of z b (rw zero at e)));
         aware = λ x h e one. absurd (omega (arith, nobody x h));
       });
-      learned = rw is (λ x h e whole few. absurd (omega (arith, crash-tests x, found.ahead x h e whole)));
+      learned = rw is (λ x h e whole few. absurd (omega (arith, (same-pass x).made, found.ahead x h e whole)));
     }
 
     left-same : left_with n d b s v ≡ left_with n d b s q.state.table
     unfolding turns_left
-    left-same = sum_by n (λ i h. rw (crash-tests i, bytes i finished_column (omega arith) (omega arith)) refl)
+    left-same = sum_by n (λ i h. rw ((same-pass i).made, (same-pass i).done) refl)
 
     phase-crash : Phase n d b round 0 q'
     phase-crash =

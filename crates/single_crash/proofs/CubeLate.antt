@@ -16,7 +16,7 @@ use Rattle.lists.proofs.BoolLaws.{by_bool}
 use Rattle.lists.proofs.SumLaws.{sum-zero}
 use Rattle.lists.proofs.Xor.{xor-cancel, xor-undo}
 use Rattle.table.specs.declared.wiring.Wiring.TheVariants.{Cube}
-use Rattle.table.specs.Table.{next_column, finished_column, next_distance, finished, tests_made, suspects, row}
+use Rattle.table.specs.Table.{next_distance, finished, tests_made, suspects, row}
 use Rattle.table.specs.Rules.{round_over}
 use Rattle.station.specs.Groups.{distance, station_at}
 use Rattle.station.specs.Tests.{unsuspected, due}
@@ -31,7 +31,7 @@ use Rattle.detection.proofs.TurnEffect.{Row, Tested}
 use Rattle.single_crash.specs.Sweeps.{turns_made}
 use Rattle.single_crash.proofs.Sweeps.{place-below}
 use Rattle.single_crash.proofs.SweepLaw.{grant_of}
-use Rattle.single_crash.proofs.Running.{Running, going, kept, heads, moved, goes_on, turn-less, live-waits, has-ended, all-ended, rows-same, rows-tested, left_of}
+use Rattle.single_crash.proofs.Running.{Running, going, kept, heads, moved, goes_on, turn-less, live-waits, has-ended, all-ended, rows-same, rows-tested, left_of, others-same}
 use Rattle.single_crash.proofs.Crashing.{all_but, but-dead, but-apart}
 use Rattle.single_crash.proofs.Passes.{turns_left}
 use Rattle.single_crash.proofs.Running.{left_of}
@@ -213,14 +213,12 @@ module _ {n d : ℕ} (c : Cubic n d) (three : 3 ≤ d) (eight : 8 ≤ n) {p : St
   early' =
       by_cases (ℕ_discrete g 0) early-own
       (λ q.
-      let own = heads o.running in
       let other : 0 ≢ g = λ z. q (sym z) in
-      let f = own.others 0 finished_column other (omega arith) in
-      let x = own.others 0 next_column other (omega arith) in
+      let same = others-same o.running 0 other in
       let m = (moved o.running).others 0 (omega arith) other in
       record {
-        going = λ few. f ∙ o.early.going (omega (arith, m));
-        next = λ few. omega (arith, x, m, o.early.next (omega (arith, m)));
+        going = λ few. same.done ∙ o.early.going (omega (arith, m));
+        next = λ few. omega (arith, same.next, m, o.early.next (omega (arith, m)));
         aware = λ some. (kept o.running).grows 0 1 (omega arith) (omega arith) (o.early.aware (omega (arith, m)));
       })
 

@@ -11,7 +11,7 @@ use native.Mathlib.Omega.{arith}
 use lib.Bits.{xor_lt}
 use lib.Pow.{pow_pos, pow_mono}
 use Rattle.lists.proofs.BoolLaws.{by_bool}
-use Rattle.table.specs.Table.{tests_column, finished, tests_made, suspects, row}
+use Rattle.table.specs.Table.{finished, tests_made, suspects, row}
 use Rattle.table.specs.declared.wiring.Wiring.TheVariants.{Cube}
 use Rattle.station.specs.Groups.{station_at}
 use Rattle.station.proofs.WiredLaws.{cube-station}
@@ -19,7 +19,7 @@ use Rattle.plant.specs.Turn.{next_test, makes_test}
 use Rattle.granter.specs.Drive.{Stand}
 use Rattle.detection.proofs.TurnEffect.{Row, Tested}
 use Rattle.single_crash.proofs.SweepLaw.{grant_of}
-use Rattle.single_crash.proofs.Running.{Running, going, kept, heads, has-ended}
+use Rattle.single_crash.proofs.Running.{Running, going, kept, heads, has-ended, others-same}
 use Rattle.single_crash.proofs.CubeDue.{Few}
 use Rattle.single_crash.proofs.CubePace.{Cubic, few-but, Paced, pace-test, first-test}
 use Rattle.single_crash.proofs.CubeRun.{OthersLive, fewest, granted-other}
@@ -96,7 +96,7 @@ module _ {n d b : ℕ} {Learns : ℕ → Type 0} {need : ℕ → ℕ} (way : Way
           by_cases (ℕ_discrete x g)
           (λ q. rw q (own (rw q at s) (rw q at l)))
           (λ q.
-          let same = (heads r).others x tests_column q (omega arith) in
+          let same = (others-same r x q).made in
           (kept r).grows x b hx hb (known x hx far s (omega (arith, same))))
         where
           own : Learns g → need g ≤ tests_made n t' g → suspects n t' g b ≡ 1

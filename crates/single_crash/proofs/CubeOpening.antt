@@ -11,7 +11,6 @@ use native.Mathlib.Decide.{ℕ_discrete, dec_lt}
 use native.Mathlib.Omega.{arith}
 use borrow.Author.Tests.{ne_eqb}
 use Rattle.lists.specs.Sums.{sum_below}
-use Rattle.lists.proofs.BoolLaws.{by_bool}
 use Rattle.lists.proofs.SumLaws.{sum-zero, sum-add, sum-const}
 use Rattle.table.specs.declared.wiring.Wiring.TheVariants.{Cube}
 use Rattle.table.specs.Table.{finished}
@@ -22,11 +21,10 @@ use Rattle.granter.specs.Fairness.{stations_before}
 use Rattle.granter.specs.Drive.{Stand, grant_turn, after_grants}
 use Rattle.single_crash.specs.Sweeps.{turns_made}
 use Rattle.single_crash.proofs.SweepLaw.{grant_of}
-use Rattle.single_crash.proofs.Running.{Running, chosen, goes_on, turn-less, live-waits, has-ended, all-ended, left_of}
+use Rattle.single_crash.proofs.Running.{Running, chosen, turn-less, live-waits, has-ended, all-ended, left_of, by_round}
 use Rattle.single_crash.proofs.Crashing.{everyone}
-use Rattle.single_crash.proofs.Passes.{turns_left}
+use Rattle.single_crash.proofs.Passes.{turns_left, at_place, sum-at}
 use Rattle.single_crash.proofs.Running.{left_of}
-use Rattle.single_crash.proofs.RingStages.{at_place, sum-at}
 use Rattle.single_crash.proofs.CubePace.{Cubic, OnPace}
 use Rattle.single_crash.proofs.CubeWhole.{all_live, whole-pace}
 use Rattle.single_crash.proofs.CubeOrder.{turns-granted, last-turn, first-turn}
@@ -65,10 +63,9 @@ module _ {n d : ℕ} (c : Cubic n d) (three : 3 ≤ d) (eight : 8 ≤ n) where
 
     opening-next : suc k < n * suc d → Opening n d (suc k) (grant_turn Cube n p)
     opening-next more =
-        by_bool (round_over n t')
-        (λ over. absurd (omega (arith, none-left over, one-less, o.counted)))
-        (λ on.
-        let w = goes_on o.running on in
+        by_round o.running
+        (λ over w. absurd (omega (arith, none-left over, one-less, o.counted)))
+        (λ on w.
         let five : 5 < n = omega arith in
         let pace : (i : ℕ) → i < n → i ≢ n → OnPace n d t i = λ i h q. o.pace i h in
         let apart = present g below in

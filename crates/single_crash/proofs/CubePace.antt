@@ -30,6 +30,7 @@ use Rattle.plant.proofs.StepLines.{Lines}
 use Rattle.plant.proofs.TurnHeads.{Heads}
 use Rattle.detection.proofs.TestsDue.{row-unsuspected}
 use Rattle.detection.proofs.TurnEffect.{Plain}
+use Rattle.single_crash.proofs.Running.{SamePass}
 use Rattle.single_crash.proofs.CubeDue.{pace, pace_zero, pace_suc, Few, next-level, next-none, next-first}
 
 -- a size of 2^d boards, 4 at least
@@ -101,15 +102,13 @@ pace-start d r = record {
 }
 
 -- a line of which no such byte changes
-pub pace-same : {n d : ℕ} {t : List ℕ} (t' : List ℕ) {i : ℕ} → finished n t' i ≡ finished n t i → tests_made n t' i ≡ tests_made n t i
-    → next_distance n t' i ≡ next_distance n t i → OnPace n d t i → OnPace n d t' i
-pace-same t' f m x p = record { going = rw (f, m, x) p.going; ended = rw (f, m) p.ended }
+pub pace-same : {n d : ℕ} {t t' : List ℕ} {i : ℕ} → SamePass n t t' i → OnPace n d t i → OnPace n d t' i
+pace-same s p = record { going = rw (s.done, s.made, s.next) p.going; ended = rw (s.done, s.made) p.ended }
 
-pub paced-same : {n d b : ℕ} {t : List ℕ} (t' : List ℕ) {i : ℕ} → finished n t' i ≡ finished n t i → tests_made n t' i ≡ tests_made n t i
-    → next_distance n t' i ≡ next_distance n t i → Paced n d b t i → Paced n d b t' i
-paced-same t' f m x p = record {
-  far = λ far. pace-same t' f m x (p.far far);
-  begins = record { first = rw (f, m, x) p.begins.first; some = rw (f, m) p.begins.some };
+pub paced-same : {n d b : ℕ} {t t' : List ℕ} {i : ℕ} → SamePass n t t' i → Paced n d b t i → Paced n d b t' i
+paced-same s p = record {
+  far = λ far. pace-same s (p.far far);
+  begins = record { first = rw (s.done, s.made, s.next) p.begins.first; some = rw (s.done, s.made) p.begins.some };
 }
 
 -- the own turn of board i, which suspects board z at most

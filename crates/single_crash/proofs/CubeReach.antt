@@ -17,7 +17,7 @@ use Rattle.lists.proofs.SumLaws.{sum_by, sum-add, sum-const}
 use Rattle.lists.proofs.Xor.{xor-undo}
 use Rattle.table.specs.Sizes.{is_size}
 use Rattle.table.specs.declared.wiring.Wiring.TheVariants.{Cube}
-use Rattle.table.specs.Table.{head, stride, cell, next_column, finished_column, tests_column, finished, tests_made, suspects}
+use Rattle.table.specs.Table.{head, finished, tests_made, suspects}
 use Rattle.table.specs.Rules.{round_over}
 use Rattle.table.specs.Fresh.{fresh_table}
 use Rattle.station.specs.Groups.{distance}
@@ -32,10 +32,9 @@ use Rattle.single_crash.specs.Sweeps.{turns_made}
 use Rattle.single_crash.specs.Setting.{Sound, crash_at, behind_crash, KnownDead}
 use Rattle.single_crash.specs.Cube.{CubeNoFewerGrants, CubeNoFewerRounds}
 use Rattle.single_crash.proofs.SweepLaw.{grant_of}
-use Rattle.single_crash.proofs.Running.{Crew, Running, heads, closes, goes_on, turn-less, has-ended, all-ended}
-use Rattle.single_crash.proofs.Crashing.{everyone, but-dead, but-apart, sound-fresh, sound-run, crash-same, crash-goes_on, crash-turns, stays-open, not-known}
-use Rattle.single_crash.proofs.Passes.{turns_left}
-use Rattle.single_crash.proofs.RingStages.{at_place, sum-at}
+use Rattle.single_crash.proofs.Running.{Crew, Running, closes, goes_on, turn-less, has-ended, all-ended, others-same, by_round, SamePass}
+use Rattle.single_crash.proofs.Crashing.{everyone, but-dead, but-apart, sound-fresh, sound-run, crash-same, crash-goes_on, crash-turns, stays-open, not-known, crash-pass}
+use Rattle.single_crash.proofs.Passes.{turns_left, at_place, sum-at}
 use Rattle.single_crash.proofs.FreshSound.{fresh-is-sound}
 use Rattle.single_crash.proofs.CubePace.{Cubic, OnPace, pace-start, pace-same, pace-paced}
 use Rattle.single_crash.proofs.CubeRun.{OthersLive, granted-other}
@@ -101,7 +100,7 @@ module _ {n d : ℕ} (c : Cubic n d) (three : 3 ≤ d) (eight : 8 ≤ n) where
       closer =
           by_cases (ℕ_discrete g 4) (λ e. e)
           (λ e.
-          let same = (heads o.running).others 4 finished_column (λ q. e (sym q)) (omega arith) in
+          let same = (others-same o.running 4 (λ q. e (sym q))).done in
           let last = ended 4 (omega arith) (λ q. omega arith) in
           let going_not : finished n t 4 ≢ 0 = λ z. omega (arith, z, same, last) in
           let all = turns-ended 1 c others (omega arith) o.running o.pace 4 (omega arith) (λ q. omega arith) going_not in
@@ -146,12 +145,10 @@ module _ {n d : ℕ} (c : Cubic n d) (three : 3 ≤ d) (eight : 8 ≤ n) where
 
   slow-next : (round m : ℕ) → 1 ≤ m → (p : Stand) → Slow n d round (suc m) p → Slow n d round m (grant_turn Cube n p)
   slow-next round m some p (resting o e left) =
-      by_bool (round_over n (grant_of Cube n p).turned)
-      (λ over.
-      let w = closes o.running over in
+      by_round o.running
+      (λ over w.
       late (rest-over o over) (omega (arith, w.rounds, e)) (omega (arith, rest-left o over, rest-less o, left)))
-      (λ on.
-      let w = goes_on o.running on in
+      (λ on w.
       resting (rest-on o on) (w.rounds ∙ e) (rw w.table (omega (arith, rest-less o, left))))
   slow-next round m some p (late o e left) =
       let few = few-turns c three eight o (omega (arith, left)) in
@@ -160,7 +157,7 @@ module _ {n d : ℕ} (c : Cubic n d) (three : 3 ≤ d) (eight : 8 ≤ n) where
       let w = goes_on o.running on in
       late (late-next c three eight o on) (w.rounds ∙ e) (rw w.table (omega (arith, less, left)))
 
-  pub slow-after : (round m k : ℕ) → 1 ≤ m → (p : Stand) → Slow n d round (m + k) p → Slow n d round m (after_grants Cube n p k)
+  slow-after : (round m k : ℕ) → 1 ≤ m → (p : Stand) → Slow n d round (m + k) p → Slow n d round m (after_grants Cube n p k)
   unfolding after_grants
   slow-after round m zero some p s = let e : m + 0 ≡ m = omega arith in rw e at s
   slow-after round m (suc k) some p s =
@@ -168,7 +165,7 @@ module _ {n d : ℕ} (c : Cubic n d) (three : 3 ≤ d) (eight : 8 ≤ n) where
       slow-next round m some _ (slow-after round (suc m) k (omega arith) p (rw e at s))
 
   -- one grant before the last one board 4 does not know it, and the second round has begun
-  pub slow-end : (round : ℕ) (p : Stand) → Slow n d round 1 p → (suspects n p.state.table 4 1 ≡ 0) × (suc round ≤ p.state.rounds)
+  slow-end : (round : ℕ) (p : Stand) → Slow n d round 1 p → (suspects n p.state.table 4 1 ≡ 0) × (suc round ≤ p.state.rounds)
   unfolding turns_left
   slow-end round p (resting o e left) =
       let each : (i : ℕ) → i < n → at_place 4 3 i ≤ turns_left L (λ i. d + 3) (turns_made n p.state.table) i =
@@ -202,8 +199,8 @@ module _ {n d : ℕ} (c : Cubic n d) (three : 3 ≤ d) (eight : 8 ≤ n) {q : St
   two : turns_made n u 4 ≡ 2
   two = last-two c three eight o
 
-  bytes : (k j : ℕ) → 1 ≤ j → j < stride n → cell n v k j ≡ cell n u k j
-  bytes = crash-same 1 team (omega arith) o.running
+  same-pass : (i : ℕ) → SamePass n u v i
+  same-pass = crash-pass 1 team (omega arith) o.running
 
   -- boards that have made two turns, or three, have made as many tests
   made-tests : (i m : ℕ) → i < n → m ≤ 3 → m ≤ turns_made n u i → m ≤ tests_made n u i
@@ -228,13 +225,13 @@ module _ {n d : ℕ} (c : Cubic n d) (three : 3 ≤ d) (eight : 8 ≤ n) {q : St
         let far : distance z 1 ≡ 4 = rw f at e in
         let five : z ≡ 5 = sym (xor-undo z 1) ∙ ap (λ (x : ℕ). bit_xor x 1) far in
         let made : 3 ≤ tests_made n u z = made-tests z 3 hz (omega arith) (rw five (omega (arith, first-three c three eight o))) in
-        omega (arith, f, made, bytes z tests_column (omega arith) (omega arith)))
+        omega (arith, f, made, (same-pass z).made))
         (λ f.
         let made = made-tests z 2 hz (omega arith) (omega (arith, o.lag z hz, two)) in
-        omega (arith, f, made, bytes z tests_column (omega arith) (omega arith)));
+        omega (arith, f, made, (same-pass z).made));
     aware = λ x hx e one.
         let none : suspects n v x 1 ≡ 0 =
-        bytes x (head + 1) (omega arith) (omega arith) ∙ o.running.plain.accurate x 1 hx (omega arith) refl refl in
+        crash-same 1 team (omega arith) o.running x (head + 1) (omega arith) (omega arith) ∙ o.running.plain.accurate x 1 hx (omega arith) refl refl in
         absurd (omega (arith, one, none));
   }
 
@@ -244,8 +241,7 @@ module _ {n d : ℕ} (c : Cubic n d) (three : 3 ≤ d) (eight : 8 ≤ n) {q : St
       record {
         running = w.running;
         pace = rw w.table (λ i h e.
-            pace-same v (bytes i finished_column (omega arith) (omega arith)) (bytes i tests_column (omega arith) (omega arith))
-            (bytes i next_column (omega arith) (omega arith)) (o.pace i h));
+            pace-same (same-pass i) (o.pace i h));
         near = rw w.table crash-near;
         lag = λ i h e. omega (arith, turns-same i, turns-same 4, o.lag i h);
       }

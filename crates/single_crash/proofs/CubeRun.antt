@@ -8,12 +8,12 @@ use Prim.Native.Nat.{ℕ, ◌≤◌, ◌<◌}
 use native.Mathlib.Decide.{ℕ_discrete}
 use native.Mathlib.Omega.{arith}
 use lib.Pow.{pow_mono}
-use Rattle.table.specs.Table.{next_column, finished_column, tests_column, finished, tests_made}
+use Rattle.table.specs.Table.{finished, tests_made}
 use Rattle.table.specs.declared.wiring.Wiring.TheVariants.{Cube}
 use Rattle.granter.specs.Drive.{Stand}
 use Rattle.single_crash.specs.Sweeps.{turns_made}
 use Rattle.single_crash.proofs.SweepLaw.{grant_of}
-use Rattle.single_crash.proofs.Running.{Running, chosen, is_live, going, heads, grant-fewest, live-waits}
+use Rattle.single_crash.proofs.Running.{Running, chosen, is_live, going, heads, grant-fewest, live-waits, others-same}
 use Rattle.single_crash.proofs.CubePace.{Cubic, few-but, OnPace, Paced, pace-same, paced-same, paced-own}
 
 pub four : {n d : ℕ} → Cubic n d → 4 ≤ n
@@ -29,11 +29,7 @@ module _ {n : ℕ} {L : ℕ → Bool} {begins : ℕ} {p : Stand} (r : Running Cu
 
   -- the passes of the other boards stay
   pub pace-turn : {d : ℕ} → (OnPace n d t g → OnPace n d t' g) → (i : ℕ) → OnPace n d t i → OnPace n d t' i
-  pace-turn own i paced =
-      let turned = heads r in
-      by_cases (ℕ_discrete i g) (λ e. rw e (own (rw e at paced)))
-      (λ q. pace-same t' (turned.others i finished_column q (omega arith)) (turned.others i tests_column q (omega arith))
-      (turned.others i next_column q (omega arith)) paced)
+  pace-turn own i paced = by_cases (ℕ_discrete i g) (λ e. rw e (own (rw e at paced))) (λ q. pace-same (others-same r i q) paced)
 
   -- where b is dead another board is granted
   pub record Other (b : ℕ) : Type 0 where
@@ -46,8 +42,7 @@ module _ {n : ℕ} {L : ℕ → Bool} {begins : ℕ} {p : Stand} (r : Running Cu
   -- tests are made, and none taken back
   pub more-tests : (x : ℕ) → tests_made n t x ≤ tests_made n t' x
   more-tests x =
-      let turned = heads r in
-      by_cases (ℕ_discrete x g) (λ e. rw e (omega (arith, turned.tests))) (λ q. omega (arith, turned.others x tests_column q (omega arith)))
+      by_cases (ℕ_discrete x g) (λ e. rw e (omega (arith, (heads r).tests))) (λ q. omega (arith, (others-same r x q).made))
 
   -- no other board that waits has made fewer turns, and so fewer tests
   module _ {d : ℕ} (b : ℕ) (c : Cubic n d) (others : OthersLive n b L) where
@@ -59,10 +54,8 @@ module _ {n : ℕ} {L : ℕ → Bool} {begins : ℕ} {p : Stand} (r : Running Cu
 
     pub paced-turn : (i : ℕ) → i < n → i ≢ b → Paced n d b t i → Paced n d b t' i
     paced-turn i h apart paced =
-        let turned = heads r in
         by_cases (ℕ_discrete i g)
         (λ e.
         let few = few-but b c others r.plain g (chosen r).0 (λ q. apart (e ∙ q)) in
-        rw e (paced-own c t g b few (going r) t' _ turned (rw e at paced)))
-        (λ q. paced-same t' (turned.others i finished_column q (omega arith)) (turned.others i tests_column q (omega arith))
-        (turned.others i next_column q (omega arith)) paced)
+        rw e (paced-own c t g b few (going r) t' _ (heads r) (rw e at paced)))
+        (λ q. paced-same (others-same r i q) paced)

@@ -2,12 +2,10 @@
 -- Assumes nothing.
 use mathlib.Core.Path.{refl}
 use Prim.Native.Nat.{ℕ, zero, suc, ◌<◌}
-use Rattle.lists.proofs.BoolLaws.{by_bool}
-use Rattle.table.specs.Rules.{round_over}
 use Rattle.table.specs.declared.wiring.Wiring.TheVariants.{Cube}
 use Rattle.granter.specs.Drive.{Stand, grant_turn, after_grants}
 use Rattle.single_crash.proofs.SweepLaw.{grant_of}
-use Rattle.single_crash.proofs.Running.{Running, chosen, going, heads, closes, goes_on}
+use Rattle.single_crash.proofs.Running.{Running, chosen, going, heads, by_round}
 use Rattle.single_crash.proofs.Crashing.{everyone}
 use Rattle.single_crash.proofs.CubePace.{Cubic, few-none, beside-none, OnPace, pace-start, pace-own}
 use Rattle.single_crash.proofs.CubeRun.{OthersLive, pace-turn}
@@ -34,14 +32,10 @@ module _ {n d : ℕ} (c : Cubic n d) where
         pace-turn r own i (pace i h)
 
   whole-next : {p : Stand} → Whole n d p → Whole n d (grant_turn Cube n p)
-  whole-next {p = p} r =
-      by_bool (round_over n (grant_of Cube n p).turned)
-      (λ over.
-      let w = closes r.running over in
-      record { begins = _; running = w.running; pace = λ i h. pace-start d (w.fresh i h) })
-      (λ on.
-      let w = goes_on r.running on in
-      record { begins = _; running = w.running; pace = rw w.table (whole-pace r.running r.pace) })
+  whole-next r =
+      by_round r.running
+      (λ over w. record { begins = _; running = w.running; pace = λ i h. pace-start d (w.fresh i h) })
+      (λ on w. record { begins = _; running = w.running; pace = rw w.table (whole-pace r.running r.pace) })
 
   pub whole-after : {p : Stand} (k : ℕ) → Whole n d p → Whole n d (after_grants Cube n p k)
   unfolding after_grants

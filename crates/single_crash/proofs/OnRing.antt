@@ -7,7 +7,7 @@ use Prim.Native.Nat.{ℕ, zero, suc, ◌+◌, ◌%◌, ◌≤◌, ◌<◌}
 use native.Mathlib.Omega.{arith}
 use Rattle.lists.proofs.BoolLaws.{by_bool}
 use Rattle.lists.proofs.SumLaws.{sum-zero}
-use Rattle.table.specs.Table.{finished_column, next_distance, finished, tests_made, suspects}
+use Rattle.table.specs.Table.{next_distance, finished, tests_made, suspects}
 use Rattle.table.specs.Rules.{round_over}
 use Rattle.table.proofs.SizeLaws.{size-bounds}
 use Rattle.table.specs.declared.wiring.Wiring.TheVariants.{Ring}
@@ -19,7 +19,7 @@ use Rattle.detection.proofs.RingPass.{RingTurn}
 use Rattle.detection.proofs.RingTurns.{ring-turns}
 use Rattle.single_crash.specs.Sweeps.{turns_made}
 use Rattle.single_crash.proofs.SweepLaw.{grant_of}
-use Rattle.single_crash.proofs.Running.{Running, chosen, is_live, going, kept, heads, closes, goes_on, turn-less, all-ended, left_of}
+use Rattle.single_crash.proofs.Running.{Running, chosen, is_live, going, kept, heads, goes_on, turn-less, all-ended, left_of, others-same, by_round}
 use Rattle.single_crash.proofs.Crashing.{everyone}
 use Rattle.single_crash.proofs.Passes.{Reaches, Passing, made-most, passing-start, PassTurn, passing-turn, turn-left, turns_left}
 
@@ -56,7 +56,7 @@ module _ {n : ℕ} {L : ℕ → Bool} {begins : ℕ} {p : Stand} (r : Running Ri
         → (Row n t i j → Row n t' ((i + m) % n) j) × (Row n t ((i + m) % n) j → Row n t' i j)
     meets-at l j h = ((rw q at turn-at.exchanges) low l).1 j h
 
-  pub pass-turn : PassTurn n L (Row n t) (Row n t') (next_distance n t) (next_distance n t') (tests_made n t) (tests_made n t') (finished n t)
+  pass-turn : PassTurn n L (Row n t) (Row n t') (next_distance n t) (next_distance n t') (tests_made n t) (tests_made n t') (finished n t)
       (finished n t') g
   pass-turn =
       let own = heads r in
@@ -66,7 +66,7 @@ module _ {n : ℕ} {L : ℕ → Bool} {begins : ℕ} {p : Stand} (r : Running Ri
         is_live = is_live r;
         going = zero;
         turn = ring-turn;
-        other-done = λ i d. own.others i finished_column d (omega arith);
+        other-done = λ i d. (others-same r i d).done;
         tests = λ h. by_bool (makes_test Ring n t g) (λ e. omega (arith, zero, rw e at own.finish))
             (λ e. absurd (omega (arith, ring-turn.tests h, rw e at own.tests)));
         ends = λ h. by_bool (makes_test Ring n t g) (λ e. absurd (omega (arith, (ring-turn.finishes h).1, rw e at own.tests)))
@@ -131,11 +131,9 @@ module _ {n begins : ℕ} {q : Stand} (before : Before n begins q) where
       let c = goes_on before.run unclosed in
       record { run = c.running; passes = rw c.table (passes-on before.run one before.passes) }
 
-  pub before-step : (c : ℕ) × Before n c stand
+  before-step : (c : ℕ) × Before n c stand
   before-step =
-      by_bool (round_over n turned)
-      (λ over. let c = closes before.run over in (_, before-fresh c.fresh c.running))
-      (λ unclosed. (begins, before-on unclosed))
+      by_round before.run (λ over c. (_, before-fresh c.fresh c.running)) (λ unclosed c. (begins, before-on unclosed))
 
 pub before-all : {n begins : ℕ} {p : Stand} → Before n begins p → (k : ℕ) → (c : ℕ) × Before n c (after_grants Ring n p k)
 unfolding after_grants

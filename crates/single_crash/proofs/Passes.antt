@@ -1,6 +1,6 @@
 -- The passes of a round on the ring over numbers, where each live board has a number of tests to make; and the turns that are left.
 -- Assumes nothing.
-use mathlib.Core.Path.{◌≡◌, refl}
+use mathlib.Core.Path.{◌≡◌, refl, ◌∙◌}
 use mathlib.Core.Logic.{◌≢◌, by_cases}
 use mathlib.Core.Bool.{Bool, true, false, cond}
 use Prim.Native.Nat.{ℕ, suc, ◌+◌, ◌-◌, ◌%◌, ◌≤◌, ◌<◌}
@@ -116,3 +116,10 @@ unfolding turns_left
 left-turn n live reach turns turns' g h l left own others =
     sum_one (turns_left live reach turns) (turns_left live reach turns') n g h (λ i k d. rw (others i k d))
     (rw (l) (omega arith))
+
+-- a number at place p only
+abbrev pub at_place : ℕ → ℕ → ℕ → ℕ
+at_place p v i = cond (eqb i p) v 0
+
+pub sum-at : (n p v : ℕ) → p < n → sum_below (at_place p v) n ≡ v
+sum-at n p v h = sum-single (at_place p v) n p h (λ i l d. rw (ne_eqb i p d) refl) ∙ rw (eq-eqb p p refl) refl

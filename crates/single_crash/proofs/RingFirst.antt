@@ -8,7 +8,7 @@ use mathlib.Core.List.{List}
 use Prim.Native.Nat.{ℕ, suc, ◌+◌, ◌-◌, ◌%◌, ◌≤◌, ◌<◌}
 use native.Mathlib.Decide.{dec_lt, ℕ_discrete}
 use native.Mathlib.Omega.{arith}
-use Rattle.table.specs.Table.{finished_column, tests_column, finished, tests_made, suspects}
+use Rattle.table.specs.Table.{finished, tests_made, suspects}
 use Rattle.table.specs.Rules.{round_over}
 use Rattle.table.proofs.SizeLaws.{size-bounds}
 use Rattle.table.specs.declared.wiring.Wiring.TheVariants.{Ring}
@@ -21,8 +21,8 @@ use Rattle.single_crash.specs.Sweeps.{turns_made}
 use Rattle.single_crash.specs.Setting.{crash_at}
 use Rattle.single_crash.proofs.Sweeps.{place-one, place-below}
 use Rattle.single_crash.proofs.SweepLaw.{grant_of}
-use Rattle.single_crash.proofs.Running.{Running, going, kept, heads, closes, goes_on, grant-first, live-waits, all-ended}
-use Rattle.single_crash.proofs.Crashing.{crash-same, crash-goes_on}
+use Rattle.single_crash.proofs.Running.{Running, going, kept, closes, goes_on, grant-first, live-waits, all-ended, others-same}
+use Rattle.single_crash.proofs.Crashing.{crash-goes_on, crash-pass}
 use Rattle.single_crash.proofs.Passes.{made-most}
 use Rattle.single_crash.proofs.Around.{BeginsAt, some-board, begins-fits, place-of, place-zero, place-next, before-below, before-next}
 use Rattle.single_crash.proofs.Around.{begins-at}
@@ -121,7 +121,7 @@ module _ {n b : ℕ} (board : Board n b) where
         let meets = meets-at run d 1 e (omega arith) (omega arith) alive b board.hb in
         let hears : suspects n u a b ≡ 1 → suspects n u' d b ≡ 1 = rw d-next at meets.1 in
         hears (a-knows e none))
-        (λ k. absurd (omega (arith, (heads run).others d tests_column k (omega arith)))))
+        (λ k. absurd (omega (arith, (others-same run d k).made))))
 
     pub finding-first-on : round_over n u' ≡ false → FindingFirst begins (grant_turn Ring n p)
     finding-first-on unclosed = record {
@@ -191,7 +191,7 @@ module _ {n b : ℕ} (board : Board n b) where
         by_cases (dec_lt (stations_before n begins a) sweep.passed) (λ l. omega arith)
         (λ l. absurd (omega (arith, sweep.to_come a a<n wait-a (omega arith), one)))
 
-    pub first-turn : BeginsAt n a begins
+    first-turn : BeginsAt n a begins
     first-turn = go (some-board n begins (omega arith) s.run.fits)
       where
         go : (f : ℕ) × (f < n) × BeginsAt n f begins → BeginsAt n a begins
@@ -210,7 +210,7 @@ module _ {n b : ℕ} (board : Board n b) where
     pub crash-first : round_over n (crash n v b) ≡ false → WaitingFirst begins (crash_at Ring n q b)
     crash-first unclosed =
         let on = crash-goes_on b (crew board) board.hb s.run unclosed in
-        let same = crash-same b (crew board) board.hb s.run d finished_column (omega arith) (omega arith) in
+        let same = (crash-pass b (crew board) board.hb s.run d).done in
         let unfinished : finished n v d ≡ 0 = omega arith in
         record {
           waiting = crash-waiting board s unclosed had;

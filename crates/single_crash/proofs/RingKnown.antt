@@ -20,8 +20,7 @@ use Rattle.detection.proofs.TurnEffect.{Plain, Exact}
 use Rattle.single_crash.specs.Sweeps.{turns_made}
 use Rattle.single_crash.specs.Setting.{Sound, crash_at, behind_crash, RoundsSince, KnownDead}
 use Rattle.single_crash.specs.Ring.{RingInGrants, RingInRounds}
-use Rattle.single_crash.proofs.SweepLaw.{grant_of}
-use Rattle.single_crash.proofs.Running.{Running, closes, goes_on, stays_known, runs_on, left_of}
+use Rattle.single_crash.proofs.Running.{Running, goes_on, stays_known, runs_on, left_of, by_round}
 use Rattle.single_crash.proofs.Crashing.{all_but, sound-fresh, sound-run, crash-closes, crash-goes_on, crash-turns, known-dead}
 use Rattle.single_crash.proofs.OnRing.{one, one-less, Before, before-fresh, before-all}
 use Rattle.single_crash.proofs.RingStages.{Board, Waiting, Finding, Spread, circle, ahead, crew, two_before, left-most, left-made, finding-fresh}
@@ -50,7 +49,7 @@ module _ {n b : ℕ} (board : Board n b) where
         → left_of n L one p.state.table + (n + n + n) ≤ m + 5 → Stage first m p
 
   -- with no grant left, and when three rounds have closed, all know
-  pub stage-done : (first : ℕ) (p : Stand) → Stage first 0 p → Exact n L p.state.table
+  stage-done : (first : ℕ) (p : Stand) → Stage first 0 p → Exact n L p.state.table
   stage-done first p (all_know begins r know) = know
   stage-done first p (spreading begins j s low rounds most) = absurd (omega arith)
   stage-done first p (finding begins s rounds most) = absurd (omega arith)
@@ -61,7 +60,7 @@ module _ {n b : ℕ} (board : Board n b) where
       absurd (omega (arith, one-less r (two_before board) s.finding.passes))
   stage-done first p (waiting_first begins s rounds most) = absurd (omega arith)
 
-  pub stage-closed : (first m : ℕ) (p : Stand) → Stage first m p → first + 3 ≤ p.state.rounds → Exact n L p.state.table
+  stage-closed : (first m : ℕ) (p : Stand) → Stage first m p → first + 3 ≤ p.state.rounds → Exact n L p.state.table
   stage-closed first m p (all_know begins r know) three = know
   stage-closed first m p (spreading begins j s low rounds most) three = absurd (omega arith)
   stage-closed first m p (finding begins s rounds most) three = absurd (omega arith)
@@ -70,7 +69,7 @@ module _ {n b : ℕ} (board : Board n b) where
   stage-closed first m p (finding_first begins s rounds most) three = absurd (omega arith)
   stage-closed first m p (waiting_first begins s rounds most) three = absurd (omega arith)
 
-  pub stage-plain : (first m : ℕ) (p : Stand) → Stage first m p → Plain Ring n L p.state.table
+  stage-plain : (first m : ℕ) (p : Stand) → Stage first m p → Plain Ring n L p.state.table
   stage-plain first m p (all_know begins r know) = r.plain
   stage-plain first m p (spreading begins j s low rounds most) = s.run.plain
   stage-plain first m p (finding begins s rounds most) = s.run.plain
@@ -80,7 +79,7 @@ module _ {n b : ℕ} (board : Board n b) where
   stage-plain first m p (waiting_first begins s rounds most) = s.waiting.run.plain
 
   -- a grant takes one
-  pub stage-step : (first m : ℕ) (p : Stand) → Stage first m p → Stage first (m - 1) (grant_turn Ring n p)
+  stage-step : (first m : ℕ) (p : Stand) → Stage first m p → Stage first (m - 1) (grant_turn Ring n p)
   stage-step first m p (all_know begins r know) =
       let on = runs_on r in
       all_know on.0 on.1 (stays_known r know)
@@ -92,23 +91,19 @@ module _ {n b : ℕ} (board : Board n b) where
   stage-step first m p (finding begins s rounds most) =
       let reach = two_before board in
       let less = one-less s.run reach s.passes in
-      by_bool (round_over n (grant_of Ring n p).turned)
-      (λ over.
-      let z = closes s.run over in
+      by_round s.run
+      (λ over z.
       let on = finding-closes board s over in
       spreading on.0 0 on.1 (omega arith) (omega (arith, z.rounds)) (omega (arith, less)))
-      (λ unclosed.
-      let o = goes_on s.run unclosed in
+      (λ unclosed o.
       finding begins (finding-on board s unclosed) (omega (arith, o.rounds)) (rw o.table (omega (arith, less))))
   stage-step first m p (waiting begins s rounds most) =
       let less = one-less s.run one s.passes in
-      by_bool (round_over n (grant_of Ring n p).turned)
-      (λ over.
-      let z = closes s.run over in
+      by_round s.run
+      (λ over z.
       let fresh = finding-fresh board z.fresh z.running in
       finding _ fresh (omega (arith, z.rounds)) (omega (arith, less, left-most board (grant_turn Ring n p).state.table)))
-      (λ unclosed.
-      let o = goes_on s.run unclosed in
+      (λ unclosed o.
       waiting begins (waiting-on board s unclosed) (omega (arith, o.rounds)) (rw o.table (omega (arith, less))))
   stage-step first m p (spreading_first begins j s low rounds most) =
       let on = spread-first-on board s (omega arith) in
@@ -119,28 +114,24 @@ module _ {n b : ℕ} (board : Board n b) where
       let reach = two_before board in
       let r = s.finding.run in
       let less = one-less r reach s.finding.passes in
-      by_bool (round_over n (grant_of Ring n p).turned)
-      (λ over.
-      let z = closes r over in
+      by_round r
+      (λ over z.
       let on = finding-first-closes board s over in
       by_cases (dec_lt 4 n) (λ l. spreading_first on.0 0 on.1 l (omega (arith, z.rounds)) (omega (arith, less)))
       (λ l. all_know on.0 on.1.spread.run (spread-first-known board on.1 (omega arith))))
-      (λ unclosed.
-      let o = goes_on r unclosed in
+      (λ unclosed o.
       finding_first begins (finding-first-on board s unclosed) (omega (arith, o.rounds)) (rw o.table (omega (arith, less))))
   stage-step first m p (waiting_first begins s rounds most) =
       let r = s.waiting.run in
       let less = one-less r one s.waiting.passes in
-      by_bool (round_over n (grant_of Ring n p).turned)
-      (λ over.
-      let z = closes r over in
+      by_round r
+      (λ over z.
       let on = waiting-first-closes board s over in
       finding_first on.0 on.1 (omega (arith, z.rounds)) (omega (arith, less, left-most board (grant_turn Ring n p).state.table)))
-      (λ unclosed.
-      let o = goes_on r unclosed in
+      (λ unclosed o.
       waiting_first begins (waiting-first-on board s unclosed) (omega (arith, o.rounds)) (rw o.table (omega (arith, less))))
 
-  pub stage-after : (first m : ℕ) (p : Stand) → Stage first m p → (g : ℕ) → Stage first (m - g) (after_grants Ring n p g)
+  stage-after : (first m : ℕ) (p : Stand) → Stage first m p → (g : ℕ) → Stage first (m - g) (after_grants Ring n p g)
   unfolding after_grants
   stage-after first m p s zero = let e : m - 0 ≡ m = omega arith in rw e s
   stage-after first m p s (suc g) =
@@ -164,25 +155,23 @@ module _ {n b : ℕ} (board : Board n b) where
         finding begins (crash-finding board s unclosed none) (omega (arith, rounds))
         (omega (arith, left-most board p.state.table))
 
-    -- a has made its test: 2n − 4 turns are left at the most, where it has finished, or the one before it has made a turn
+    -- a has made its test: how many turns are left by those of a and d
+    left-by : (x y : ℕ) → x ≤ 2 → y ≤ 2 → x ≤ turns_made n v a → y ≤ turns_made n v d → left_of n L one p.state.table + (2 + x + y) ≤ n + n
+    left-by x y two two' made made' =
+        let same = crash-turns b (crew board) board.hb s.run unclosed in
+        left-made board p.state.table a x d y a<n d<n (λ e. d-apart (sym e)) live-a live-d (omega (arith, same a)) (omega (arith, same d)) two two'
+
+    -- 2n − 4 at the most, where a has finished, or d has made a turn
     some-made : (x y : ℕ) → 1 ≤ tests_made n v a → x + y ≡ 2 → x ≤ turns_made n v a → y ≤ turns_made n v d → Stage q.state.rounds (5 * n - 8) p
     some-made x y had two made made' =
-        let same = crash-turns b (crew board) board.hb s.run unclosed in
-        let apart : a ≢ d = λ e. d-apart (sym e) in
-        let left =
-        left-made board p.state.table a x d y a<n d<n apart live-a live-d
-        (omega (arith, same a)) (omega (arith, same d)) (omega arith) (omega arith) in
-        waiting begins (crash-waiting board s unclosed had) (omega (arith, rounds)) (omega (arith, left))
+        waiting begins (crash-waiting board s unclosed had) (omega (arith, rounds))
+        (omega (arith, left-by x y (omega arith) (omega arith) made made'))
 
     -- or the round began with a
     first-made : 1 ≤ tests_made n v a → turns_made n v a ≤ 1 → turns_made n v d ≡ 0 → Stage q.state.rounds (5 * n - 8) p
     first-made had once none =
-        let same = crash-turns b (crew board) board.hb s.run unclosed in
-        let apart : a ≢ d = λ e. d-apart (sym e) in
-        let left =
-        left-made board p.state.table a 1 d 0 a<n d<n apart live-a live-d
-        (omega (arith, same a)) (omega (arith, same d)) (omega arith) (omega arith) in
-        waiting_first begins (crash-first board s had once none unclosed) (omega (arith, rounds)) (omega (arith, left))
+        waiting_first begins (crash-first board s had once none unclosed) (omega (arith, rounds))
+        (omega (arith, left-by 1 0 (omega arith) (omega arith) (omega arith) (omega arith)))
 
     stage-open : Stage q.state.rounds (5 * n - 8) p
     stage-open =
@@ -194,7 +183,7 @@ module _ {n b : ℕ} (board : Board n b) where
         (λ l. none-made (omega arith))
 
   -- where it stands when b has crashed
-  pub stage-crash : {begins : ℕ} {q : Stand} → Before n begins q → Stage q.state.rounds (5 * n - 8) (crash_at Ring n q b)
+  stage-crash : {begins : ℕ} {q : Stand} → Before n begins q → Stage q.state.rounds (5 * n - 8) (crash_at Ring n q b)
   stage-crash {q = q} s =
       by_bool (round_over n (crash n q.state.table b))
       (λ over.
@@ -224,10 +213,10 @@ module _ (n : ℕ) (four : 4 ≤ n) (p : Stand) (k b g : ℕ) (given : Sound Rin
   known-in : Exact n (all_but b) (behind_crash Ring n p k b g).state.table → KnownDead n (behind_crash Ring n p k b g).state.table b
   known-in exact = known-dead Ring n b (behind_crash Ring n p k b g).state.table (stage-plain board _ _ _ reached) exact
 
-  pub grants-known : 5 * n - 8 ≤ g → KnownDead n (behind_crash Ring n p k b g).state.table b
+  grants-known : 5 * n - 8 ≤ g → KnownDead n (behind_crash Ring n p k b g).state.table b
   grants-known far = let e : 5 * n - 8 - g ≡ 0 = omega arith in known-in (stage-done board _ _ (rw e at reached))
 
-  pub rounds-known : RoundsSince Ring n p k b g 3 → KnownDead n (behind_crash Ring n p k b g).state.table b
+  rounds-known : RoundsSince Ring n p k b g 3 → KnownDead n (behind_crash Ring n p k b g).state.table b
   rounds-known far = known-in (stage-closed board _ _ _ reached far)
 
 -- the claims, ends in themselves

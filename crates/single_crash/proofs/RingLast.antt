@@ -8,7 +8,7 @@ use native.Mathlib.Decide.{ℕ_discrete}
 use native.Mathlib.Omega.{arith}
 use Rattle.lists.proofs.BoolLaws.{by_bool}
 use Rattle.lists.proofs.SearchLaws.{every-all}
-use Rattle.table.specs.Table.{finished_column, finished}
+use Rattle.table.specs.Table.{finished}
 use Rattle.table.specs.Rules.{finished_if_live, live_finished, round_over}
 use Rattle.table.specs.declared.wiring.Wiring.TheVariants.{Ring}
 use Rattle.granter.specs.Fairness.{stations_before}
@@ -16,7 +16,7 @@ use Rattle.granter.specs.Drive.{Stand}
 use Rattle.single_crash.specs.Sweeps.{turns_made}
 use Rattle.single_crash.proofs.Sweeps.{place-one, place-below}
 use Rattle.single_crash.proofs.SweepLaw.{grant_of}
-use Rattle.single_crash.proofs.Running.{Running, some-live, chosen, kept, heads, moved, grant-first, grant-fewest, live-waits, all-ended}
+use Rattle.single_crash.proofs.Running.{Running, some-live, chosen, kept, moved, grant-first, grant-fewest, live-waits, all-ended, others-same}
 use Rattle.single_crash.proofs.Passes.{made-most}
 use Rattle.single_crash.proofs.OnRing.{PassesOf, passes-on, one}
 
@@ -29,7 +29,7 @@ module _ {n : ℕ} {L : ℕ → Bool} {begins : ℕ} {p : Stand} (r : Running Ri
   last-closes over =
       by_cases (ℕ_discrete g z) (λ e. e)
       (λ k.
-      let same = (heads r).others z finished_column (λ e. k (sym e)) (omega arith) in
+      let same = (others-same r z (λ e. k (sym e))).done in
       let ended = all-ended r over z hz lz in
       absurd (omega (arith, open-still)))
 
@@ -45,7 +45,7 @@ module _ {n : ℕ} {L : ℕ → Bool} {begins : ℕ} {p : Stand} (r : Running Ri
     others-ended i h l =
         by_cases (ℕ_discrete i g) (λ q. ap (λ (x : ℕ). finished n t' x) (q ∙ sym e) ∙ ended)
         (λ q.
-        let same = (heads r).others i finished_column q (omega arith) in
+        let same = (others-same r i q).done in
         by_cases (ℕ_discrete (finished n t i) 1) (λ x. same ∙ x)
         (λ x.
         let none : finished n t i ≡ 0 = omega (arith, pass.range i h) in
@@ -69,4 +69,4 @@ module _ {n : ℕ} {L : ℕ → Bool} {begins : ℕ} {p : Stand} (r : Running Ri
       by_cases (ℕ_discrete z g)
       (λ e. by_cases (ℕ_discrete (finished n t' z) 1) (λ ended. absurd (true≢false (sym (closing e ended) ∙ unclosed)))
       (λ x. omega (arith, (passes-on r one pass).range z hz)))
-      (λ k. (heads r).others z finished_column k (omega arith) ∙ open-still)
+      (λ k. (others-same r z k).done ∙ open-still)

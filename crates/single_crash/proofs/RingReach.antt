@@ -13,7 +13,7 @@ use Rattle.lists.specs.Sums.{bit}
 use Rattle.lists.proofs.BoolLaws.{by_bool}
 use Rattle.lists.proofs.SumLaws.{sum_by, sum-add, sum-const}
 use Rattle.table.specs.Sizes.{is_size}
-use Rattle.table.specs.Table.{head, stride, cell, finished_column, finished, tests_made, suspects}
+use Rattle.table.specs.Table.{head, stride, cell, finished, tests_made, suspects}
 use Rattle.table.specs.Rules.{round_over}
 use Rattle.table.specs.Fresh.{fresh_table}
 use Rattle.table.specs.declared.wiring.Wiring.TheVariants.{Ring}
@@ -29,11 +29,11 @@ use Rattle.single_crash.specs.Ring.{RingNoFewerGrants, RingNoFewerRounds}
 use Rattle.single_crash.proofs.SweepLaw.{none-made}
 use Rattle.single_crash.proofs.SweepLaw.{grant_of}
 use Rattle.single_crash.proofs.Running.{Running, chosen, moved, goes_on, grant-first, grant-fewest, live-waits, left_of}
-use Rattle.single_crash.proofs.Crashing.{everyone, all_but, crash-same, crash-turns, crash-goes_on, stays-open, not-known}
-use Rattle.single_crash.proofs.Passes.{made-most, turns_left}
+use Rattle.single_crash.proofs.Crashing.{everyone, all_but, crash-same, crash-turns, crash-goes_on, stays-open, not-known, crash-pass}
+use Rattle.single_crash.proofs.Passes.{made-most, turns_left, at_place, sum-at}
 use Rattle.single_crash.proofs.Around as around
 use Rattle.single_crash.proofs.OnRing.{one, Before, one-less, none-left, before-on}
-use Rattle.single_crash.proofs.RingStages.{Board, crew, at_place, sum-at, crash-waiting}
+use Rattle.single_crash.proofs.RingStages.{Board, crew, crash-waiting}
 use Rattle.single_crash.proofs.RingKnown.{sound-before}
 use Rattle.single_crash.proofs.RingSlow.{WaitingSlow, Slow, slow_waiting, slow-unaware, slow-rounds, slow-after}
 use Rattle.single_crash.proofs.FreshSound.{fresh-is-sound}
@@ -92,7 +92,7 @@ module _ (n : ℕ) (size : is_size n ≡ true) (four : 4 ≤ n) where
         let low : g ≤ x = omega (arith, place-is g g<n, place-is x (omega arith)) in
         by_cases (dec_lt g x) (λ l. absurd (omega (arith, had g l, s.turns g g<n))) (λ l. omega arith)
 
-    pub one-open : round_over n t' ≡ false
+    one-open : round_over n t' ≡ false
     one-open =
         let r = s.before.run in
         by_bool (round_over n t')
@@ -100,7 +100,7 @@ module _ (n : ℕ) (size : is_size n ≡ true) (four : 4 ≤ n) where
         absurd (omega (arith, none-left r one s.before.passes over, one-less r one s.before.passes)))
         (λ o. o)
 
-    pub first-on : (made' : ℕ → ℕ) → made' x ≡ 1 → ((i : ℕ) → i ≢ x → made' i ≡ made i) → First (grant_turn Ring n p) made'
+    first-on : (made' : ℕ → ℕ) → made' x ≡ 1 → ((i : ℕ) → i ≢ x → made' i ≡ made i) → First (grant_turn Ring n p) made'
     first-on made' own same =
         let r = s.before.run in
         let m = moved r in
@@ -112,7 +112,7 @@ module _ (n : ℕ) (size : is_size n ≡ true) (four : 4 ≤ n) where
               (λ d. m.others i h (λ e. d (e ∙ at-x)) ∙ (s.turns i h ∙ sym (same i d))));
         }
 
-    pub first-left : suc (left_of n everyone one (grant_turn Ring n p).state.table) ≡ left_of n everyone one t
+    first-left : suc (left_of n everyone one (grant_turn Ring n p).state.table) ≡ left_of n everyone one t
     first-left =
         let r = s.before.run in
         rw (goes_on r one-open).table (one-less r one s.before.passes)
@@ -233,7 +233,7 @@ module _ (n : ℕ) (size : is_size n ≡ true) (four : 4 ≤ n) where
         from = inl (sym d-is);
         unfinished =
             rw (o.table, z-is)
-            (same (n - 1) finished_column (omega arith) (omega arith) ∙ unmade (n - 1) (omega arith) (omega arith));
+            ((crash-pass 2 (crew board) hb run (n - 1)).done ∙ unmade (n - 1) (omega arith) (omega arith));
         unaware = λ k h l. rw o.table (same k (head + 2) (omega arith) (omega arith) ∙ run.plain.accurate k 2 h hb refl refl);
       }
 

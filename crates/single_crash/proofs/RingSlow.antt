@@ -8,8 +8,7 @@ use mathlib.Core.List.{List}
 use Prim.Native.Nat.{ℕ, zero, suc, ◌+◌, ◌-◌, ◌%◌, ◌≤◌, ◌<◌}
 use native.Mathlib.Decide.{dec_lt, ℕ_discrete}
 use native.Mathlib.Omega.{arith}
-use Rattle.lists.proofs.BoolLaws.{by_bool}
-use Rattle.table.specs.Table.{head, tests_column, next_distance, finished, tests_made, suspects}
+use Rattle.table.specs.Table.{head, next_distance, finished, tests_made, suspects}
 use Rattle.table.specs.Rules.{round_over}
 use Rattle.table.proofs.SizeLaws.{size-bounds}
 use Rattle.table.specs.declared.wiring.Wiring.TheVariants.{Ring}
@@ -20,7 +19,7 @@ use Rattle.granter.specs.Fairness.{stations_before}
 use Rattle.granter.specs.Drive.{Stand, granted_at, grant_turn, after_grants}
 use Rattle.single_crash.proofs.Sweeps.{place-one, place-below}
 use Rattle.single_crash.proofs.SweepLaw.{grant_of}
-use Rattle.single_crash.proofs.Running.{Running, chosen, is_live, going, heads, next, closes, goes_on, grant-most, live-waits, left_of}
+use Rattle.single_crash.proofs.Running.{Running, chosen, is_live, going, next, closes, goes_on, grant-most, live-waits, left_of, others-same, by_round}
 use Rattle.single_crash.proofs.Passes.{made-most}
 use Rattle.single_crash.proofs.Around.{BeginsAt, board-below, begins-fits, place-of, place-zero, place-next, before-below, before-next}
 use Rattle.single_crash.proofs.Around.{before-second, both-apart, other-next, next-one, begins-at}
@@ -124,7 +123,7 @@ module _ {n b : ℕ} (board : Board n b) where
         let at = (s.waiting.passes.tested g below alive (omega arith)).0 in
         rows-stay r b board.hb (omega arith) k ∙ s.unaware k h l)
 
-    pub waiting-slow-on : round_over n t' ≡ false → WaitingSlow begins (grant_turn Ring n p)
+    waiting-slow-on : round_over n t' ≡ false → WaitingSlow begins (grant_turn Ring n p)
     waiting-slow-on unclosed =
         let o = goes_on r unclosed in
         record {
@@ -134,7 +133,7 @@ module _ {n b : ℕ} (board : Board n b) where
           unaware = λ k h l. rw o.table (stays-unaware k h l);
         }
 
-    pub waiting-slow-closes : round_over n t' ≡ true → (begins' : ℕ) × FindingSlow begins' (grant_turn Ring n p)
+    waiting-slow-closes : round_over n t' ≡ true → (begins' : ℕ) × FindingSlow begins' (grant_turn Ring n p)
     waiting-slow-closes over =
         let q = closes r over in
         let last = last-closes r s.waiting.passes z z<n z-lives (place-z begins s.from) s.unfinished over in
@@ -190,7 +189,7 @@ module _ {n b : ℕ} (board : Board n b) where
         omega (arith, x-going)
 
     tests-a : x ≢ a → tests_made n u' a ≡ tests_made n u a
-    tests-a k = (heads run).others a tests_column (λ e. k (sym e)) (omega arith)
+    tests-a k = (others-same run a (λ e. k (sym e))).made
 
     -- what a turn leaves
     record Left : Type 0 where
@@ -278,7 +277,7 @@ module _ {n b : ℕ} (board : Board n b) where
         let at = s.finding.passes.tested x x<n x-lives (omega (arith, one-at board x k)) in
         finishes (omega (arith, at.0)) (tests-a k)))
 
-    pub finding-slow-on : round_over n u' ≡ false → FindingSlow begins (grant_turn Ring n p)
+    finding-slow-on : round_over n u' ≡ false → FindingSlow begins (grant_turn Ring n p)
     finding-slow-on unclosed =
         let o = goes_on run unclosed in
         record {
@@ -289,7 +288,7 @@ module _ {n b : ℕ} (board : Board n b) where
           unaware = rw o.table left-by.unaware;
         }
 
-    pub finding-slow-closes : round_over n u' ≡ true → (begins' : ℕ) × SpreadSlow begins' 0 (grant_turn Ring n p)
+    finding-slow-closes : round_over n u' ≡ true → (begins' : ℕ) × SpreadSlow begins' 0 (grant_turn Ring n p)
     finding-slow-closes over =
         let on = finding-closes board s.finding over in
         let q = closes run over in (
@@ -304,7 +303,7 @@ module _ {n b : ℕ} (board : Board n b) where
         )
 
   -- a grant in the round behind that
-  pub spread-slow-on : {begins j : ℕ} {p : Stand} → SpreadSlow begins j p → (more : j + 3 < n) → SpreadSlow begins (suc j) (grant_turn Ring n p)
+  spread-slow-on : {begins j : ℕ} {p : Stand} → SpreadSlow begins j p → (more : j + 3 < n) → SpreadSlow begins (suc j) (grant_turn Ring n p)
   spread-slow-on {begins = begins} {p = p} s more =
       let run = s.spread.run in
       let o = goes_on run (spread-open board s.spread more) in
@@ -340,32 +339,28 @@ module _ {n b : ℕ} (board : Board n b) where
       absurd (omega (arith, one-less s.finding.run (two_before board) s.finding.passes))
   slow-rounds first p (slow_spread begins j s rounds most) = rounds
 
-  pub slow-step : (first m : ℕ) (p : Stand) → Slow first (suc m) p → Slow first m (grant_turn Ring n p)
+  slow-step : (first m : ℕ) (p : Stand) → Slow first (suc m) p → Slow first m (grant_turn Ring n p)
   slow-step first m p (slow_waiting begins s rounds most) =
       let r = s.waiting.run in
       let less = one-less r one s.waiting.passes in
-      by_bool (round_over n (grant_of Ring n p).turned)
-      (λ over.
+      by_round r
+      (λ over q.
       let on = waiting-slow-closes s over in
-      let q = closes r over in
       let none = none-left r one s.waiting.passes over in
       let fresh =
       left-fresh board (grant_turn Ring n p).state.table (λ i h. omega (arith, (q.fresh i h).untested, (q.fresh i h).unfinished)) in
       slow_finding on.0 on.1 (omega (arith, q.rounds)) (omega arith))
-      (λ unclosed.
-      let o = goes_on r unclosed in
+      (λ unclosed o.
       slow_waiting begins (waiting-slow-on s unclosed) (omega (arith, o.rounds)) (rw o.table (omega (arith, less))))
   slow-step first m p (slow_finding begins s rounds most) =
       let r = s.finding.run in
       let reach = two_before board in
       let less = one-less r reach s.finding.passes in
-      by_bool (round_over n (grant_of Ring n p).turned)
-      (λ over.
+      by_round r
+      (λ over q.
       let on = finding-slow-closes s over in
-      slow_spread on.0 0 on.1 (omega (arith, (closes r over).rounds))
-      (omega (arith, less, none-left r reach s.finding.passes over)))
-      (λ unclosed.
-      let o = goes_on r unclosed in
+      slow_spread on.0 0 on.1 (omega (arith, q.rounds)) (omega (arith, less, none-left r reach s.finding.passes over)))
+      (λ unclosed o.
       slow_finding begins (finding-slow-on s unclosed) (omega (arith, o.rounds)) (rw o.table (omega (arith, less))))
   slow-step first m p (slow_spread begins j s rounds most) =
       let more : j + 3 < n = omega arith in

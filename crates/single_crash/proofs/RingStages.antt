@@ -3,7 +3,7 @@
 -- Assumes nothing.
 use mathlib.Core.Path.{◌≡◌, refl, sym, ap, ◌∙◌}
 use mathlib.Core.Logic.{◌≢◌, by_cases}
-use mathlib.Core.Bool.{Bool, true, false, cond, true≢false}
+use mathlib.Core.Bool.{Bool, true, false, true≢false}
 use mathlib.Core.List.{List}
 use Prim.Native.Nat.{ℕ, suc, ◌+◌, ◌*◌, ◌-◌, ◌%◌, ◌≤◌, ◌<◌}
 use native.Mathlib.Decide.{dec_lt, ℕ_discrete}
@@ -12,10 +12,10 @@ use borrow.Author.Tests.{eq-eqb, ne_eqb}
 use lib.Dec.{eqb}
 use Rattle.lists.specs.Sums.{sum_below, bit}
 use Rattle.lists.proofs.BoolLaws.{by_bool}
-use Rattle.lists.proofs.SumLaws.{sum_by, sum-add, sum-const, sum-single}
+use Rattle.lists.proofs.SumLaws.{sum_by, sum-add, sum-const}
 use Rattle.slots.proofs.Counts.{sum-le}
 use Rattle.table.specs.Sizes.{is_size}
-use Rattle.table.specs.Table.{next_column, finished_column, tests_column, next_distance, finished, tests_made, suspects}
+use Rattle.table.specs.Table.{next_distance, finished, tests_made, suspects}
 use Rattle.table.specs.Rules.{round_over}
 use Rattle.table.proofs.SizeLaws.{size-bounds}
 use Rattle.table.specs.declared.wiring.Wiring.TheVariants.{Ring}
@@ -29,21 +29,14 @@ use Rattle.single_crash.specs.Sweeps.{turns_made}
 use Rattle.single_crash.specs.Setting.{crash_at}
 use Rattle.single_crash.proofs.Sweeps.{place-one, place-below}
 use Rattle.single_crash.proofs.SweepLaw.{grant_of}
-use Rattle.single_crash.proofs.Running.{Crew, Running, Closed, WentOn, chosen, is_live, going, kept, heads, next, closes, goes_on, grant-first, grant-fewest, grant-most, live-waits, all-ended, left_of}
-use Rattle.single_crash.proofs.Crashing.{all_but, other-lives, but-dead, but-apart, others-crew, crash-same, crash-goes_on}
-use Rattle.single_crash.proofs.Passes.{Reaches, turns_left}
+use Rattle.single_crash.proofs.Running.{Crew, Running, Closed, WentOn, chosen, is_live, going, kept, heads, next, closes, goes_on, grant-first, grant-fewest, grant-most, live-waits, all-ended, left_of, others-same, SamePass}
+use Rattle.single_crash.proofs.Crashing.{all_but, other-lives, but-dead, but-apart, others-crew, crash-goes_on, crash-pass}
+use Rattle.single_crash.proofs.Passes.{Reaches, turns_left, at_place, sum-at}
 use Rattle.single_crash.proofs.Around.{board_at, BeginsAt, board-below, begins-fits, place-of, place-zero, place-other, place-next}
 use Rattle.single_crash.proofs.Around.{before-below, before-next, other-next, before-second, before-apart, behind-below, behind-apart, begins-at}
 use Rattle.single_crash.proofs.Around.{both-apart}
 use Rattle.single_crash.proofs.Around as around
 use Rattle.single_crash.proofs.OnRing.{PassesOf, passes-fresh, counts-at, finds-at, meets-at, passes-on, had-left, one, reach-one, Before}
-
--- a number at place p only
-abbrev pub at_place : ℕ → ℕ → ℕ → ℕ
-at_place p v i = cond (eqb i p) v 0
-
-pub sum-at : (n p v : ℕ) → p < n → sum_below (at_place p v) n ≡ v
-sum-at n p v h = sum-single (at_place p v) n p h (λ i l d. rw (ne_eqb i p d) refl) ∙ rw (eq-eqb p p refl) refl
 
 -- b is a board of a ring of four boards at least
 pub record Board (n b : ℕ) : Type 0 where
@@ -68,13 +61,13 @@ circle n b =
 module _ {n b : ℕ} (board : Board n b) where
   open circle n b use {others as L, first as a, second as d, next as c}
 
-  pub a-below : a < n
+  a-below : a < n
   a-below = before-below n b board.hb (omega arith)
 
   pub c-below : c < n
   c-below = behind-below n b board.hb (omega arith)
 
-  pub a-lives : L a ≡ true
+  a-lives : L a ≡ true
   a-lives = other-lives b a (before-apart n b board.hb (omega arith))
 
   pub c-lives : L c ≡ true
@@ -220,7 +213,7 @@ module _ {n b : ℕ} (board : Board n b) where
     waiting-tested =
         let h = heads s.run in
         by_cases (ℕ_discrete a (granted_at n p)) (λ e. rw e (omega (arith, h.tests, rw e at s.tested)))
-        (λ d. omega (arith, h.others a tests_column d (omega arith), s.tested))
+        (λ d. omega (arith, (others-same s.run a d).made, s.tested))
 
     pub waiting-on : round_over n (grant_of Ring n p).turned ≡ false → Waiting begins (grant_turn Ring n p)
     waiting-on unclosed =
@@ -235,7 +228,7 @@ module _ {n b : ℕ} (board : Board n b) where
     grows i h e = (kept s.run).grows i b h board.hb e
 
     others : a ≢ g → tests_made n t' a ≡ tests_made n t a
-    others d = (heads s.run).others a tests_column d (omega arith)
+    others d = (others-same s.run a d).made
 
     -- a finds b, and then tells the one behind it
     turn-finds : a ≡ g → tests_made n t a ≡ 0 → suspects n t' a b ≡ 1
@@ -282,9 +275,8 @@ module _ {n b : ℕ} (board : Board n b) where
         by_cases (ℕ_discrete g a) (λ e. e)
         (λ d.
         let r = s.run in
-        let h = heads r in
         let ended : finished n t' a ≡ 1 = all-ended r over a a-below a-lives in
-        let same = h.others a finished_column (λ e. d (sym e)) (omega arith) in
+        let same = (others-same r a (λ e. d (sym e))).done in
         let after = by_cases (dec_lt (tests_made n t a) 2) (λ l. absurd (omega (arith, s.passes.testing a a-below a-lives (omega (arith, two-at)))))
         (λ l. s.passes.tested a a-below a-lives (omega (arith, two-at))) in
         let most = grant-most r a a-below in
@@ -407,14 +399,13 @@ module _ {n b : ℕ} (board : Board n b) where
         let done = all-ended s.run over a a-below a-lives in
         let far = place-of n b begins board.hb s.from (n - 1) (omega arith) in
         let other : a ≢ e = λ q. omega (arith, far, e-place, rw q at far) in
-        let same = (heads s.run).others a finished_column other (omega arith) in
+        let same = (others-same s.run a other).done in
         absurd (omega (arith, done, same, s.fresh a a-below a-lives (omega (arith, far)))))
         (λ o. o)
 
     pub spread-on : Spread begins (suc j) (grant_turn Ring n p)
     spread-on =
         let o = goes_on s.run spread-open in
-        let h = heads s.run in
         let grows : (i : ℕ) → i < n → suspects n u i b ≡ 1 → suspects n u' i b ≡ 1 =
         λ i l q. (kept s.run).grows i b l board.hb q in
         record {
@@ -423,16 +414,13 @@ module _ {n b : ℕ} (board : Board n b) where
           fresh = λ i k l m.
               let other : i ≢ e = λ q. omega (arith, e-place, rw q at m) in
               let f = s.fresh i k l (omega arith) in
-              rw o.table (
-                h.others i next_column other (omega arith) ∙ f.0,
-                h.others i tests_column other (omega arith) ∙ f.1,
-                h.others i finished_column other (omega arith) ∙ f.2,
-              );
+              let same = others-same s.run i other in
+              rw o.table (same.next ∙ f.0, same.made ∙ f.1, same.done ∙ f.2);
           tested = λ i k l m.
               rw o.table (by_cases (ℕ_discrete i e) (λ q. rw q (omega (arith, counted)))
               (λ q.
               let apart : place i ≢ place e = λ z. q (place-one n begins i e fits k below z) in
-              omega (arith, h.others i tests_column q (omega arith), s.tested i k l (omega (arith, apart, e-place)))));
+              omega (arith, (others-same s.run i q).made, s.tested i k l (omega (arith, apart, e-place)))));
           knows = λ i k l m.
               rw o.table (by_cases (dec_lt (place i) (suc (suc j))) (λ q. grows i k (s.knows i k l (omega arith)))
               (λ q.
@@ -466,22 +454,23 @@ module _ {n b : ℕ} (board : Board n b) where
     abbrev v' : List ℕ
     v' = crash n v b
 
-    record Same (i : ℕ) : Type 0 where
-      pub next : next_distance n v' i ≡ next_distance n v i
-      pub made : tests_made n v' i ≡ tests_made n v i
-      pub done : finished n v' i ≡ finished n v i
-
-    same : (i : ℕ) → Same i
-    same i =
-        let at = crash-same b crew board.hb s.run i in
-        record {
-          next = at next_column (omega arith) (omega arith);
-          made = at tests_column (omega arith) (omega arith);
-          done = at finished_column (omega arith) (omega arith);
-        }
+    same : (i : ℕ) → SamePass n v v' i
+    same = crash-pass b crew board.hb s.run
 
     on : WentOn Ring n L v' begins q (crash_at Ring n q b)
     on = crash-goes_on b crew board.hb s.run unclosed
+
+    -- the passes of the other boards
+    others-testing : (i : ℕ) → i < n → i ≢ a → tests_made n v' i < 1
+        → (next_distance n v' i ≡ suc (tests_made n v' i)) × (finished n v' i ≡ 0) × Reaches n L 1 i
+    others-testing i h d m =
+        let at = s.passes.testing i h refl (omega (arith, (same i).made)) in
+        (omega (arith, (same i).next, (same i).made, at.0), omega (arith, (same i).done, at.1), reach-other i h d)
+
+    were-tested : (i : ℕ) → i < n → 1 ≤ tests_made n v' i → (next_distance n v' i ≡ n) × (tests_made n v' i ≡ 1)
+    were-tested i h m =
+        let at = s.passes.tested i h refl (omega (arith, (same i).made)) in
+        (omega (arith, (same i).next, at.0), omega (arith, (same i).made, at.1))
 
     -- where a has made no test, it tests b
     pub crash-finding : tests_made n v a ≡ 0 → Finding begins (crash_at Ring n q b)
@@ -489,20 +478,15 @@ module _ {n b : ℕ} (board : Board n b) where
       run = on.running;
       passes = rw on.table (record {
         testing = λ i h l m.
-            let z = same i in
             by_cases (ℕ_discrete i a)
             (λ e.
+            let z = same i in
             let at = s.passes.testing i h refl (rw e (omega (arith, none))) in
             (omega (arith, z.next, z.made, at.0), omega (arith, z.done, at.1), rw (e, two-at) reach-two))
-            (λ d.
-            let at = s.passes.testing i h refl (omega (arith, one-at i d, z.made)) in
-            (omega (arith, z.next, z.made, at.0), omega (arith, z.done, at.1), rw (one-at i d) (reach-other i h d)));
+            (λ d. rw (one-at i d) (others-testing i h d (omega (arith, one-at i d))));
         tested = λ i h l m.
-            let z = same i in
-            by_cases (ℕ_discrete i a) (λ e. absurd (omega (arith, none, two-at, z.made, rw e at m, (same a).made)))
-            (λ d.
-            let at = s.passes.tested i h refl (omega (arith, one-at i d, z.made)) in
-            (omega (arith, z.next, at.0), omega (arith, one-at i d, z.made, at.1)));
+            by_cases (ℕ_discrete i a) (λ e. absurd (omega (arith, none, two-at, rw e at m, (same a).made)))
+            (λ d. rw (one-at i d) (were-tested i h (omega (arith, one-at i d))));
         range = λ i h. omega (arith, (same i).done, s.passes.range i h);
       });
       found = λ l. absurd (omega (arith, none, (same a).made, rw on.table at l));
@@ -514,15 +498,8 @@ module _ {n b : ℕ} (board : Board n b) where
     crash-waiting had = record {
       run = on.running;
       passes = rw on.table (record {
-        testing = λ i h l m.
-            let z = same i in
-            let at = s.passes.testing i h refl (omega (arith, z.made)) in
-            let d : i ≢ a = λ e. omega (arith, z.made, rw (← e) at had) in
-            (omega (arith, z.next, z.made, at.0), omega (arith, z.done, at.1), reach-other i h d);
-        tested = λ i h l m.
-            let z = same i in
-            let at = s.passes.tested i h refl (omega (arith, z.made)) in
-            (omega (arith, z.next, at.0), omega (arith, z.made, at.1));
+        testing = λ i h l m. others-testing i h (λ e. omega (arith, (same a).made, rw e at m)) m;
+        tested = λ i h l m. were-tested i h m;
         range = λ i h. omega (arith, (same i).done, s.passes.range i h);
       });
       tested = rw on.table (omega (arith, (same a).made));

@@ -11,7 +11,7 @@ use Rattle.lists.specs.Sums.{sum_below}
 use Rattle.lists.proofs.BoolLaws.{by_bool}
 use Rattle.lists.proofs.SearchLaws.{every-all, every-not}
 use Rattle.table.specs.Sizes.{is_size}
-use Rattle.table.specs.Table.{finished, suspects}
+use Rattle.table.specs.Table.{next_column, finished_column, tests_column, next_distance, finished, tests_made, suspects}
 use Rattle.table.specs.Rules.{line_rules, not_live, some_live, round_over}
 use Rattle.table.proofs.SizeLaws.{size-bounds}
 use Rattle.table.proofs.Accepting.{Accepted}
@@ -97,6 +97,12 @@ begin {n = n} crew p plain fresh fits = record {
       (λ i h. omega (arith, (fresh i h).untested, (fresh i h).unfinished));
 }
 
+-- the bytes of board i's pass are the same in both tables
+pub record SamePass (n : ℕ) (t t' : List ℕ) (i : ℕ) : Type 0 where
+  pub next : next_distance n t' i ≡ next_distance n t i
+  pub made : tests_made n t' i ≡ tests_made n t i
+  pub done : finished n t' i ≡ finished n t i
+
 -- how many turns are left in the round
 abbrev pub left_of : ℕ → (ℕ → Bool) → (ℕ → ℕ) → List ℕ → ℕ
 left_of n L reach t = sum_below (turns_left L reach (turns_made n t)) n
@@ -141,6 +147,13 @@ module _ {w : Wiring} {n : ℕ} {L : ℕ → Bool} {begins : ℕ} {p : Stand} (r
 
   pub heads : Heads w n t t' g outcome (makes_test w n t g)
   heads = law.heads now
+
+  pub others-same : (i : ℕ) → i ≢ g → SamePass n t t' i
+  others-same i d = record {
+    next = heads.others i next_column d (omega arith);
+    made = heads.others i tests_column d (omega arith);
+    done = heads.others i finished_column d (omega arith);
+  }
 
   pub next : Next n (waits n t) p.last g
   next = law.next now
@@ -208,17 +221,19 @@ module _ {w : Wiring} {n : ℕ} {L : ℕ → Bool} {begins : ℕ} {p : Stand} (r
         };
       })
 
+  pub by_round : {A : Type 0} → (round_over n t' ≡ true → Closed w n L t' g p p' → A) → (round_over n t' ≡ false → WentOn w n L t' begins p p' → A)
+      → A
+  by_round over on = by_bool (round_over n t') (λ e. over e (closes e)) (λ e. on e (goes_on e))
+
   -- what was known stays known
   pub stays_known : Exact n L t → Exact n L p'.state.table
   stays_known exact =
       let now : Exact n L t' = λ i j h g a b. kept.grows i j h g (exact i j h g a b) in
-      by_bool (round_over n t')
-      (λ over. λ i j h g a b. (closes over).grown i j h g (now i j h g a b))
-      (λ unclosed. rw (goes_on unclosed).table now)
+      by_round (λ over z. λ i j h g a b. z.grown i j h g (now i j h g a b)) (λ unclosed o. rw o.table now)
 
   -- and a drive runs on
   pub runs_on : (b : ℕ) × Running w n L b p'
-  runs_on = by_bool (round_over n t') (λ over. (_, (closes over).running)) (λ unclosed. (_, (goes_on unclosed).running))
+  runs_on = by_round (λ over z. (_, z.running)) (λ unclosed o. (_, o.running))
 
 -- after any number of grants
 pub runs-after : {w : Wiring} {n : ℕ} {L : ℕ → Bool} {begins : ℕ} {p : Stand} → Running w n L begins p → (k : ℕ)
