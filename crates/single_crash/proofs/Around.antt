@@ -30,7 +30,7 @@ some-board n begins pos le =
     by_cases (dec_lt begins n) (λ l. (begins, l, inl refl)) (λ l. (0, pos, inr (omega arith, refl)))
 
 -- i + m, going round
-pub wrap : (n i m : ℕ) → i < n → m ≤ n → ((i + m) % n ≡ i + m) × (i + m < n) ⊎ ((i + m) % n ≡ i + m - n) × (n ≤ i + m)
+wrap : (n i m : ℕ) → i < n → m ≤ n → ((i + m) % n ≡ i + m) × (i + m < n) ⊎ ((i + m) % n ≡ i + m - n) × (n ≤ i + m)
 wrap n i m h le = by_cases (dec_lt (i + m) n) (λ l. inl (place_before n (i + m) l, l))
     (λ l. inr (place_behind n (i + m) (omega arith) (omega arith), omega arith))
 
