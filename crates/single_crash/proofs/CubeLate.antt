@@ -31,7 +31,8 @@ use Rattle.detection.proofs.TurnEffect.{Row, Tested}
 use Rattle.single_crash.specs.Sweeps.{turns_made}
 use Rattle.single_crash.proofs.Sweeps.{place-below}
 use Rattle.single_crash.proofs.SweepLaw.{grant_of}
-use Rattle.single_crash.proofs.Running.{Running, going, kept, heads, moved, goes_on, turn-less, live-waits, has-ended, all-ended, rows-same, rows-tested, left_of, others-same}
+use Rattle.single_crash.proofs.Running.{Running, going, kept, heads, moved, goes_on, turn-less, live-waits, has-ended, all-ended, rows-same}
+use Rattle.single_crash.proofs.Running.{rows-tested, left_of, others-same}
 use Rattle.single_crash.proofs.Crashing.{all_but, but-dead, but-apart}
 use Rattle.single_crash.proofs.Passes.{turns_left}
 use Rattle.single_crash.proofs.Running.{left_of}

@@ -1,7 +1,7 @@
 -- On the cube, the slowest plant before the crash: behind last granted number 4 board 5 has made three turns after 2n + 1 grants, and boards 1 and 4
 -- two, with nobody behind them.
 -- Assumes nothing.
-use mathlib.Core.Path.{◌≡◌, refl, ◌∙◌}
+use mathlib.Core.Path.{◌≡◌, refl}
 use mathlib.Core.Logic.{◌≢◌, by_cases}
 use mathlib.Core.Bool.{true}
 use mathlib.Core.List.{List}

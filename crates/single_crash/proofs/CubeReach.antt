@@ -33,7 +33,8 @@ use Rattle.single_crash.specs.Setting.{Sound, crash_at, behind_crash, KnownDead}
 use Rattle.single_crash.specs.Cube.{CubeNoFewerGrants, CubeNoFewerRounds}
 use Rattle.single_crash.proofs.SweepLaw.{grant_of}
 use Rattle.single_crash.proofs.Running.{Crew, Running, closes, goes_on, turn-less, has-ended, all-ended, others-same, by_round, SamePass}
-use Rattle.single_crash.proofs.Crashing.{everyone, but-dead, but-apart, sound-fresh, sound-run, crash-same, crash-goes_on, crash-turns, stays-open, not-known, crash-pass}
+use Rattle.single_crash.proofs.Crashing.{everyone, but-dead, but-apart, sound-fresh, sound-run, crash-same, crash-goes_on, crash-turns, stays-open}
+use Rattle.single_crash.proofs.Crashing.{not-known, crash-pass}
 use Rattle.single_crash.proofs.Passes.{turns_left, at_place, sum-at}
 use Rattle.single_crash.proofs.FreshSound.{fresh-is-sound}
 use Rattle.single_crash.proofs.CubePace.{Cubic, OnPace, pace-start, pace-same, pace-paced}
@@ -231,7 +232,8 @@ module _ {n d : ℕ} (c : Cubic n d) (three : 3 ≤ d) (eight : 8 ≤ n) {q : St
         omega (arith, f, made, (same-pass z).made));
     aware = λ x hx e one.
         let none : suspects n v x 1 ≡ 0 =
-        crash-same 1 team (omega arith) o.running x (head + 1) (omega arith) (omega arith) ∙ o.running.plain.accurate x 1 hx (omega arith) refl refl in
+        crash-same 1 team (omega arith) o.running x (head + 1) (omega arith) (omega arith)
+        ∙ o.running.plain.accurate x 1 hx (omega arith) refl refl in
         absurd (omega (arith, one, none));
   }
 

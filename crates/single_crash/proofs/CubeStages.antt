@@ -24,7 +24,8 @@ use Rattle.detection.proofs.TurnEffect.{Exact}
 use Rattle.single_crash.specs.Sweeps.{turns_made}
 use Rattle.single_crash.proofs.Sweeps.{Moved}
 use Rattle.single_crash.proofs.SweepLaw.{grant_of}
-use Rattle.single_crash.proofs.Running.{Crew, Running, Closed, chosen, is_live, going, moved, closes, goes_on, stays_known, runs_on, turn-less, has-ended, all-ended, left_of}
+use Rattle.single_crash.proofs.Running.{Crew, Running, Closed, chosen, is_live, going, moved, closes, goes_on, stays_known, runs_on, turn-less}
+use Rattle.single_crash.proofs.Running.{has-ended, all-ended, left_of}
 use Rattle.single_crash.proofs.Crashing.{all_but, other-lives, but-dead, but-apart, others-crew}
 use Rattle.single_crash.proofs.Passes.{turns_left}
 use Rattle.single_crash.proofs.Running.{left_of}

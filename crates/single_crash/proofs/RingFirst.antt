@@ -39,7 +39,7 @@ module _ {n b : ℕ} (board : Board n b) where
 
   -- in a round that begins with a, d comes last
   d-last : (begins : ℕ) → BeginsAt n a begins → stations_before n begins d ≡ n - 1
-  d-last begins from = place-of n a begins a<n from (n - 1) (omega arith)
+  d-last begins from = place-of from (n - 1) (omega arith)
 
   -- the rest of the crash's round
   pub record WaitingFirst (begins : ℕ) (p : Stand) : Type 0 where
@@ -108,7 +108,7 @@ module _ {n b : ℕ} (board : Board n b) where
         let at = (s.finding.passes.testing a a<n live-a (omega (arith, two-at board))).1 in
         let zero : turns_made n u x ≡ 0 = rw (← e) (omega (arith, none, rw (← e) at (going run))) in
         let first = grant-first run a a<n (live-waits run a a<n live-a at) (omega (arith, zero)) in
-        absurd (omega (arith, rw (← e) at first, d-last begins s.from, place-zero n a begins a<n s.from)))
+        absurd (omega (arith, rw (← e) at first, d-last begins s.from, place-zero s.from)))
 
     first-heard : 1 ≤ tests_made n u' d → suspects n u' d b ≡ 1
     first-heard l =
@@ -159,14 +159,14 @@ module _ {n b : ℕ} (board : Board n b) where
   spread-first-known {begins = begins} {p = p} s far = spread-exact board begins p s.spread.from (λ i h l m.
       by_cases (dec_lt (stations_before n begins i) (n - 2)) (λ q. s.spread.knows i h l (omega arith))
       (λ q.
-      let fits = begins-fits n b begins board.hb s.spread.from in
+      let fits = begins-fits s.spread.from in
       let here : stations_before n begins d ≡ n - 2 =
       by_cases (dec_lt (suc (stations_before n begins d)) n)
       (λ x.
-      let at = rw d-next at (place-next n b begins board.hb s.spread.from d d<n x) in
-      omega (arith, at, place-of n b begins board.hb s.spread.from (n - 1) (omega arith)))
+      let at = rw d-next at (place-next s.spread.from d d<n x) in
+      omega (arith, at, place-of s.spread.from (n - 1) (omega arith)))
       (λ x. absurd (d-apart (place-one n begins d a fits d<n a<n
-      (omega (arith, place-of n b begins board.hb s.spread.from (n - 1) (omega arith), place-below n begins d fits d<n))))) in
+      (omega (arith, place-of s.spread.from (n - 1) (omega arith), place-below n begins d fits d<n))))) in
       let same : i ≡ d = place-one n begins i d fits h d<n (omega arith) in
       rw same s.heard)) s.spread.before_knows
 
@@ -194,17 +194,17 @@ module _ {n b : ℕ} (board : Board n b) where
     first-turn : BeginsAt n a begins
     first-turn = go (some-board n begins (omega arith) s.run.fits)
       where
-        go : (f : ℕ) × (f < n) × BeginsAt n f begins → BeginsAt n a begins
+        go : (f : ℕ) × BeginsAt n f begins → BeginsAt n a begins
         go f =
             by_cases (dec_lt (suc (stations_before n begins d)) n)
-            (λ l. absurd (omega (arith, earlier, rw d-next at (place-next n f.0 begins f.1 f.2 d d<n l))))
+            (λ l. absurd (omega (arith, earlier, rw d-next at (place-next f.1 d d<n l))))
             (λ l.
-            let last = place-of n f.0 begins f.1 f.2 (n - 1) (omega arith) in
+            let last = place-of f.1 (n - 1) (omega arith) in
             let fits = s.run.fits in
             let same : d ≡ around.before n f.0 =
-            place-one n begins d _ fits d<n (before-below n f.0 f.1 (omega arith)) (omega (arith, last, place-below n begins d fits d<n)) in
-            let here : a ≡ f.0 = sym d-next ∙ ap (λ (x : ℕ). (x + 1) % n) same ∙ before-next n f.0 f.1 (omega arith) in
-            rw here f.2)
+            place-one n begins d _ fits d<n (before-below n f.0 f.1.below (omega arith)) (omega (arith, last, place-below n begins d fits d<n)) in
+            let here : a ≡ f.0 = sym d-next ∙ ap (λ (x : ℕ). (x + 1) % n) same ∙ before-next n f.0 f.1.below (omega arith) in
+            rw here f.1)
 
     -- so it is where b has crashed
     pub crash-first : round_over n (crash n v b) ≡ false → WaitingFirst begins (crash_at Ring n q b)

@@ -230,7 +230,7 @@ module _ (n : ℕ) (size : is_size n ≡ true) (four : 4 ≤ n) where
       let same : (k c : ℕ) → 1 ≤ c → c < stride n → cell n v' k c ≡ cell n v k c = crash-same 2 (crew board) hb run in
       record {
         waiting = crash-waiting board first-1.before crash-open tested;
-        from = inl (sym d-is);
+        from = record { below = omega (arith, d-is); place = inl (sym d-is) };
         unfinished =
             rw (o.table, z-is)
             ((crash-pass 2 (crew board) hb run (n - 1)).done ∙ unmade (n - 1) (omega arith) (omega arith));

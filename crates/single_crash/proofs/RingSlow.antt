@@ -19,7 +19,8 @@ use Rattle.granter.specs.Fairness.{stations_before}
 use Rattle.granter.specs.Drive.{Stand, granted_at, grant_turn, after_grants}
 use Rattle.single_crash.proofs.Sweeps.{place-one, place-below}
 use Rattle.single_crash.proofs.SweepLaw.{grant_of}
-use Rattle.single_crash.proofs.Running.{Running, chosen, is_live, going, next, closes, goes_on, grant-most, live-waits, left_of, others-same, by_round}
+use Rattle.single_crash.proofs.Running.{Running, chosen, is_live, going, closes, goes_on, grant-most, live-waits, left_of, others-same}
+use Rattle.single_crash.proofs.Running.{by_round}
 use Rattle.single_crash.proofs.Passes.{made-most}
 use Rattle.single_crash.proofs.Around.{BeginsAt, board-below, begins-fits, place-of, place-zero, place-next, before-below, before-next}
 use Rattle.single_crash.proofs.Around.{before-second, both-apart, other-next, next-one, begins-at}
@@ -42,18 +43,18 @@ module _ {n b : ℕ} (board : Board n b) where
   -- their places in a round that begins with d
   module _ (begins : ℕ) (from : BeginsAt n d begins) where
     place-d : stations_before n begins d ≡ 0
-    place-d = place-zero n d begins d<n from
+    place-d = place-zero from
 
     place-a : stations_before n begins a ≡ 1
-    place-a = omega (arith, rw d-next at (place-next n d begins d<n from d d<n (omega (arith, place-d))), place-d)
+    place-a = omega (arith, rw d-next at (place-next from d d<n (omega (arith, place-d))), place-d)
 
     place-b : stations_before n begins b ≡ 2
     place-b =
-        let at = rw (before-next n b board.hb (omega arith)) at (place-next n d begins d<n from a a<n (omega (arith, place-a))) in
+        let at = rw (before-next n b board.hb (omega arith)) at (place-next from a a<n (omega (arith, place-a))) in
         omega (arith, at, place-a)
 
     place-z : stations_before n begins z ≡ n - 1
-    place-z = place-of n d begins d<n from (n - 1) (omega arith)
+    place-z = place-of from (n - 1) (omega arith)
 
     z-apart : z ≢ b
     z-apart e = omega (arith, place-b, rw e at place-z)
@@ -61,10 +62,10 @@ module _ {n b : ℕ} (board : Board n b) where
   -- and in one that begins with b
   d-place : (begins : ℕ) → BeginsAt n b begins → stations_before n begins d ≡ n - 2
   d-place begins from =
-      let fits = begins-fits n b begins board.hb from in
-      let last = place-of n b begins board.hb from (n - 1) (omega arith) in
+      let fits = begins-fits from in
+      let last = place-of from (n - 1) (omega arith) in
       by_cases (dec_lt (suc (stations_before n begins d)) n)
-      (λ l. omega (arith, rw d-next at (place-next n b begins board.hb from d d<n l), last))
+      (λ l. omega (arith, rw d-next at (place-next from d d<n l), last))
       (λ l. absurd (d-apart (place-one n begins d a fits d<n a<n
       (omega (arith, last, place-below n begins d fits d<n)))))
 
@@ -75,7 +76,7 @@ module _ {n b : ℕ} (board : Board n b) where
   d-other e =
       let from = begins-at n b board.hb (omega arith) (size-bounds n board.size).1 in
       let begins : ℕ = following a in
-      omega (arith, d-place begins from, place-of n b begins board.hb from 1 (omega arith), ap (λ (x : ℕ). stations_before n begins x) e)
+      omega (arith, d-place begins from, place-of from 1 (omega arith), ap (λ (x : ℕ). stations_before n begins x) e)
 
   -- the rest of the crash's round: nobody suspects b
   pub record WaitingSlow (begins : ℕ) (p : Stand) : Type 0 where
@@ -296,7 +297,7 @@ module _ {n b : ℕ} (board : Board n b) where
           record {
             spread = on.1;
             unaware = λ k h l v m.
-                let second = place-of n b on.0 board.hb on.1.from 1 (omega arith) in
+                let second = place-of on.1.from 1 (omega arith) in
                 let other : k ≢ c = λ e. omega (arith, ap (λ (i : ℕ). stations_before n on.0 i) e) in
                 rw q.table (closed-row u' k ∙ left-by.unaware k h l v other);
           },

@@ -29,7 +29,8 @@ use Rattle.single_crash.specs.Sweeps.{turns_made}
 use Rattle.single_crash.specs.Setting.{crash_at}
 use Rattle.single_crash.proofs.Sweeps.{place-one, place-below}
 use Rattle.single_crash.proofs.SweepLaw.{grant_of}
-use Rattle.single_crash.proofs.Running.{Crew, Running, Closed, WentOn, chosen, is_live, going, kept, heads, next, closes, goes_on, grant-first, grant-fewest, grant-most, live-waits, all-ended, left_of, others-same, SamePass}
+use Rattle.single_crash.proofs.Running.{Crew, Running, Closed, WentOn, chosen, is_live, going, kept, heads, closes, goes_on, grant-first}
+use Rattle.single_crash.proofs.Running.{grant-fewest, grant-most, live-waits, all-ended, left_of, others-same, SamePass}
 use Rattle.single_crash.proofs.Crashing.{all_but, other-lives, but-dead, but-apart, others-crew, crash-goes_on, crash-pass}
 use Rattle.single_crash.proofs.Passes.{Reaches, turns_left, at_place, sum-at}
 use Rattle.single_crash.proofs.Around.{board_at, BeginsAt, board-below, begins-fits, place-of, place-zero, place-other, place-next}
@@ -290,11 +291,11 @@ module _ {n b : ℕ} (board : Board n b) where
         run = z.running;
         from = rw (finds-last over) (begins-at n b board.hb (omega arith) top);
         fresh = λ i h l m. let f = z.fresh i h in (f.next, f.untested, f.unfinished);
-        tested = λ i h l m. absurd (omega (arith, place-other n b (following g) board.hb from i h (but-apart b i l)));
+        tested = λ i h l m. absurd (omega (arith, place-other from i h (but-apart b i l)));
         knows = λ i h l m.
             let same : i ≡ c =
-            place-one n (following g) i c (begins-fits n b (following g) board.hb from) h c-below
-            (omega (arith, place-other n b (following g) board.hb from i h (but-apart b i l), place-of n b (following g) board.hb from 1 (omega arith))) in
+            place-one n (following g) i c (begins-fits from) h c-below
+            (omega (arith, place-other from i h (but-apart b i l), place-of from 1 (omega arith))) in
             rw same (z.grown c b c-below board.hb (finding-told ended));
         before_knows = z.grown a b a-below board.hb (finding-found (omega (arith, ended)));
       },
@@ -328,7 +329,7 @@ module _ {n b : ℕ} (board : Board n b) where
     place i = stations_before n begins i
 
     fits : begins ≤ n
-    fits = begins-fits n b begins board.hb s.from
+    fits = begins-fits s.from
 
     below : e < n
     below = (chosen s.run).0
@@ -341,10 +342,10 @@ module _ {n b : ℕ} (board : Board n b) where
     x-below = board-below n b (suc j) board.hb (omega arith)
 
     x-place : place x ≡ suc j
-    x-place = place-of n b begins board.hb s.from (suc j) (omega arith)
+    x-place = place-of s.from (suc j) (omega arith)
 
     x-lives : L x ≡ true
-    x-lives = other-lives b x (λ q. omega (arith, x-place, rw (← q) at (place-zero n b begins board.hb s.from)))
+    x-lives = other-lives b x (λ q. omega (arith, x-place, rw (← q) at (place-zero s.from)))
 
     x-waits : waits n u x ≡ true
     x-waits = live-waits s.run x x-below x-lives (s.fresh x x-below x-lives (omega (arith, x-place))).2
@@ -373,13 +374,13 @@ module _ {n b : ℕ} (board : Board n b) where
     y = (e + 1) % n
 
     pub y-place : place y ≡ suc (suc j)
-    y-place = omega (arith, place-next n b begins board.hb s.from e below (omega (arith, e-place)), e-place)
+    y-place = omega (arith, place-next s.from e below (omega (arith, e-place)), e-place)
 
     y-below : y < n
     y-below = board-below n e 1 below (omega arith)
 
     pub y-lives : L y ≡ true
-    y-lives = other-lives b y (λ q. omega (arith, y-place, rw (← q) at (place-zero n b begins board.hb s.from)))
+    y-lives = other-lives b y (λ q. omega (arith, y-place, rw (← q) at (place-zero s.from)))
 
     y-hears : suspects n u' y b ≡ 1
     y-hears =
@@ -397,7 +398,7 @@ module _ {n b : ℕ} (board : Board n b) where
         by_bool (round_over n u')
         (λ over.
         let done = all-ended s.run over a a-below a-lives in
-        let far = place-of n b begins board.hb s.from (n - 1) (omega arith) in
+        let far = place-of s.from (n - 1) (omega arith) in
         let other : a ≢ e = λ q. omega (arith, far, e-place, rw q at far) in
         let same = (others-same s.run a other).done in
         absurd (omega (arith, done, same, s.fresh a a-below a-lives (omega (arith, far)))))
@@ -435,8 +436,8 @@ module _ {n b : ℕ} (board : Board n b) where
       → suspects n p.state.table a b ≡ 1 → Exact n L p.state.table
   spread-exact begins p from knows last i k h hk l d =
       let same : k ≡ b = by_cases (ℕ_discrete k b) (λ q. q) (λ q. absurd (true≢false (sym (other-lives b k q) ∙ d))) in
-      let fits = begins-fits n b begins board.hb from in
-      let far = place-of n b begins board.hb from (n - 1) (omega arith) in
+      let fits = begins-fits from in
+      let far = place-of from (n - 1) (omega arith) in
       rw same (by_cases (dec_lt (stations_before n begins i) (n - 1)) (knows i h l)
       (λ m.
       let q : i ≡ a = place-one n begins i a fits h a-below (omega (arith, far, place-below n begins i fits h)) in
