@@ -21,10 +21,8 @@ pub fn run(
     schedule: &[u8],
     sheet: &mut [u8],
 ) -> Answer {
-    let mut answer = Answer {
-        refusal: check_run(wiring, n, table, schedule, sheet).err(),
-        taken: 0,
-    };
+    let mut answer =
+        Answer { refusal: check_run(wiring, n, table, schedule, sheet).err(), taken: 0 };
     if answer.refusal.is_some() {
         return answer;
     }

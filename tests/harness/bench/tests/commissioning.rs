@@ -97,28 +97,21 @@ fn where_cube_and_ring_cross() {
 #[test]
 fn one_dead_board_under_the_bus_master() {
     let row = |words: &str| cells("Under a bus master, one board at a time", words);
-    let sizes: Vec<usize> = row("boards")
-        .into_iter()
-        .map(|n| number(n) as usize)
-        .collect();
+    let sizes: Vec<usize> = row("boards").into_iter().map(|n| number(n) as usize).collect();
     assert_eq!(sizes.len(), 12);
     for (wiring, name) in WIRINGS {
         let of = |kind: &str| row(&format!("{name}, {kind}"));
-        let grants = sizes
-            .iter()
-            .map(|n| match vcube::one_dead(wiring, *n).expect("a size") {
-                Some(most) => (most.grants as u32, most.grants.to_string()),
-                None => (tried(wiring, *n), format!("*{}*", tried(wiring, *n))),
-            });
+        let grants = sizes.iter().map(|n| match vcube::one_dead(wiring, *n).expect("a size") {
+            Some(most) => (most.grants as u32, most.grants.to_string()),
+            None => (tried(wiring, *n), format!("*{}*", tried(wiring, *n))),
+        });
         let (grants, shown): (Vec<u32>, Vec<String>) = grants.unzip();
         assert_eq!(of("bus master"), shown);
         // Of 5 ms each, rounded up.
         let hundredths = grants.iter().map(|grants| grants.div_ceil(2));
         let seconds = hundredths.map(|h| format!("{}.{:02}", h / 100, h % 100));
         assert_eq!(of("seconds"), seconds.collect::<Vec<String>>());
-        let any_order = sizes
-            .iter()
-            .map(|n| bound_of_first_crash(wiring, *n) as u32);
+        let any_order = sizes.iter().map(|n| bound_of_first_crash(wiring, *n) as u32);
         let shown: Vec<u32> = of("any order").into_iter().map(number).collect();
         assert_eq!(shown, any_order.collect::<Vec<u32>>());
     }

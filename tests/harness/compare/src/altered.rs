@@ -47,10 +47,7 @@ fn accepted(source: Source, function: &Function) -> Result<(Call, Answer), Strin
 }
 
 fn alterations(call: &Call, right: &Answer) -> Vec<Answer> {
-    let mut altered = vec![Answer {
-        number: right.number + 1,
-        ..right.clone()
-    }];
+    let mut altered = vec![Answer { number: right.number + 1, ..right.clone() }];
     for (k, argument) in call.function.arguments.iter().enumerate() {
         if argument.form.is_number() || argument.form.is_read_only() {
             continue;

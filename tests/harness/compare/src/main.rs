@@ -41,11 +41,9 @@ fn main() -> ExitCode {
 
 fn work(options: &Options) -> Result<String, String> {
     match &options.task {
-        Task::Print => Ok(options
-            .numbers
-            .clone()
-            .map(|number| described(options.source, number))
-            .collect()),
+        Task::Print => {
+            Ok(options.numbers.clone().map(|number| described(options.source, number)).collect())
+        }
         Task::Record(path) => write(options, path)
             .map_err(|error| format!("compare: cannot write {}: {error}", path.display())),
         Task::Altered(programs) => alter(options.source, programs),
@@ -85,9 +83,7 @@ fn alter(source: Source, programs: &[PathBuf]) -> Result<String, String> {
     for program in programs {
         noticed += altered::check(source, program)?;
     }
-    Ok(format!(
-        "compare: all {noticed} altered answers are noticed"
-    ))
+    Ok(format!("compare: all {noticed} altered answers are noticed"))
 }
 
 /// Lets the programs make the calls. Where one gives something else, it and a small one are printed.
@@ -95,11 +91,7 @@ fn compare(options: &Options, programs: &[PathBuf]) -> Result<String, String> {
     let started = programs.iter().map(|program| Replayer::start(program));
     let mut replayers = started.collect::<Result<Vec<_>, _>>()?;
     let numbers = &options.numbers;
-    let copies = if numbers.start() == numbers.end() {
-        COPIES
-    } else {
-        1
-    };
+    let copies = if numbers.start() == numbers.end() { COPIES } else { 1 };
     blocks::record(options.source, numbers.clone(), |block| {
         let block = block.repeat(copies);
         replayers.iter_mut().all(|replayer| replayer.feed(&block))
@@ -146,10 +138,8 @@ fn answer_again(path: &Path) -> Result<String, String> {
         let given = panic::catch_unwind(|| answer::answer(&call)).ok();
         if given.as_ref() != Some(&recorded) {
             let given = given.map_or("nothing".into(), |given| given.number.to_string());
-            let first = format!(
-                "the first is call {made}: number {given}, recorded {}",
-                recorded.number
-            );
+            let first =
+                format!("the first is call {made}: number {given}, recorded {}", recorded.number);
             different.entry(call.function.name).or_insert((0, first)).0 += 1;
         }
     }
@@ -158,9 +148,9 @@ fn answer_again(path: &Path) -> Result<String, String> {
     }
     match (made, different.is_empty()) {
         (0, _) => Err(String::from("compare: the record has no call")),
-        (_, true) => Ok(format!(
-            "compare: the simulator gives what is recorded for all {made} calls"
-        )),
+        (_, true) => {
+            Ok(format!("compare: the simulator gives what is recorded for all {made} calls"))
+        }
         _ => Err(format!(
             "compare: the simulator gives something else than is recorded for some of {made} calls"
         )),

@@ -54,9 +54,7 @@ impl<R: Read> Reader<R> {
             name.push(self.byte()?);
         }
         name.pop();
-        let known = std::str::from_utf8(&name)
-            .ok()
-            .and_then(header::function_named);
+        let known = std::str::from_utf8(&name).ok().and_then(header::function_named);
         let function = known.ok_or_else(|| wrong("an unknown function"))?;
         let (mut before, mut after) = (Vec::new(), Vec::new());
         for argument in &function.arguments {
@@ -78,10 +76,7 @@ impl<R: Read> Reader<R> {
             return Err(wrong("more arguments than the function has"));
         }
         let number = self.byte()?;
-        let call = Call {
-            function,
-            arguments: before,
-        };
+        let call = Call { function, arguments: before };
         let arguments = after;
         Ok(Some((call, Answer { number, arguments })))
     }

@@ -104,10 +104,7 @@ fn print_head(title: &str, wiring: Wiring, text: &str, columns: &str) {
 /// A row: the cells before the speeds, and how many are made in the times.
 fn print_row(cells: &str, many: f64, times: [f64; 2]) {
     let [library, plain] = times.map(|seconds| many / seconds);
-    println!(
-        "| {cells} | {library:.0} | {plain:.0} | {:.2} |",
-        library / plain
-    );
+    println!("| {cells} | {library:.0} | {plain:.0} | {:.2} |", library / plain);
 }
 
 fn thousands(many: usize) -> f64 {
@@ -116,9 +113,7 @@ fn thousands(many: usize) -> f64 {
 
 /// For each size the dead that its rows have: none, a quarter, a half.
 fn with_dead(sizes: &[usize]) -> impl Iterator<Item = (usize, usize)> + '_ {
-    sizes
-        .iter()
-        .flat_map(|n| [(*n, 0), (*n, n / 4), (*n, n / 2)])
+    sizes.iter().flat_map(|n| [(*n, 0), (*n, n / 4), (*n, n / 2)])
 }
 
 fn print_long_runs(wiring: Wiring, sizes: &[usize], repetitions: usize) -> Done {
@@ -161,11 +156,7 @@ fn compare_exits(wiring: Wiring, sizes: &[usize]) -> Done {
 /// Of plants and schedules, of which all entries must be taken.
 fn time_runs(works: &[(Plant, Vec<u8>)], repetitions: usize) -> Times {
     let longest = works.iter().map(|(_, schedule)| 2 * schedule.len()).max();
-    let batch = Batch::new(
-        works,
-        |(plant, _)| plant.table().to_vec(),
-        longest.unwrap_or(0),
-    );
+    let batch = Batch::new(works, |(plant, _)| plant.table().to_vec(), longest.unwrap_or(0));
     let taken = "all entries are taken";
     batch.best_times(
         repetitions,
@@ -279,10 +270,8 @@ fn print_figures(repetitions: usize) -> Done {
 fn plants(n: usize) -> Vec<(Plant, Vec<u8>)> {
     let mut random = Random::new(SEED);
     let mut plant = |_| {
-        let (plant, mut file) = (
-            work::later(Wiring::Cube, n, &mut random),
-            vec![0; saved_length(n)],
-        );
+        let (plant, mut file) =
+            (work::later(Wiring::Cube, n, &mut random), vec![0; saved_length(n)]);
         plant.save(&mut file).expect("a good table");
         (plant, file)
     };

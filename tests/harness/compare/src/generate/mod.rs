@@ -87,12 +87,7 @@ fn schedule(random: &mut Random) -> Schedule {
     let bytes = schedules::given(wiring, n, &table, random);
     let entries = bytes.as_chunks().0.to_vec();
     let wiring = wiring.number();
-    Schedule {
-        wiring,
-        n,
-        table,
-        entries,
-    }
+    Schedule { wiring, n, table, entries }
 }
 
 fn any(random: &mut Random) -> Call {

@@ -51,11 +51,7 @@ pub fn assignment(n: Size, random: &mut Random) -> Call {
     let wrong = [0, right - 1, right + 1, n - 1, 2 * n, absent];
     let length = numbers::length_or(right, &wrong, random);
     let list = random.bytes(length);
-    Call::new(
-        "assignment",
-        [size(given), table, size(station), list],
-        random,
-    )
+    Call::new("assignment", [size(given), table, size(station), list], random)
 }
 
 /// A live station, if there is one, or any.

@@ -23,11 +23,7 @@ fn buffer_length(n: Size, random: &mut Random) -> usize {
     let right = saved_length(n);
     let other_forms = [table_length(n), former_saved_length(n), saved_length(n + 1)];
     // Without the heads of the lines, with the absent numbers, without the opening.
-    let other_fields = [
-        right - FIELD_HEAD * n,
-        saved_length(distances(n)),
-        right - FIELD_HEAD - 1,
-    ];
+    let other_fields = [right - FIELD_HEAD * n, saved_length(distances(n)), right - FIELD_HEAD - 1];
     let wrong = [&[right - 1, right + 1, 0][..], &other_forms, &other_fields];
     numbers::length_or(right, &wrong.concat(), random)
 }
