@@ -40,23 +40,7 @@ type Times = Result<[f64; 2], String>;
 type Done = Result<(), String>;
 
 fn main() -> ExitCode {
-    let words: Vec<String> = std::env::args().skip(1).collect();
-    let words: Vec<&str> = words.iter().map(String::as_str).collect();
-    let repetitions = match words[..] {
-        [] => REPETITIONS,
-        ["--quick"] => QUICK_REPETITIONS,
-        _ => {
-            eprintln!("usage: bench [--quick]");
-            return ExitCode::from(2);
-        }
-    };
-    match print_tables(repetitions) {
-        Ok(()) => ExitCode::SUCCESS,
-        Err(error) => {
-            eprintln!("bench: {error}");
-            ExitCode::FAILURE
-        }
-    }
+    bench::run("bench", |quick| print_tables(if quick { QUICK_REPETITIONS } else { REPETITIONS }))
 }
 
 fn print_tables(repetitions: usize) -> Done {

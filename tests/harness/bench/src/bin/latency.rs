@@ -123,22 +123,7 @@ fn rounds_of(slowest: &[Slowest], n: usize) -> Option<u32> {
 }
 
 fn main() -> ExitCode {
-    let words: Vec<String> = std::env::args().skip(1).collect();
-    let quick = match words.iter().map(String::as_str).collect::<Vec<_>>()[..] {
-        [] => false,
-        ["--quick"] => true,
-        _ => {
-            eprintln!("usage: latency [--quick]");
-            return ExitCode::from(2);
-        }
-    };
-    match work(quick) {
-        Ok(()) => ExitCode::SUCCESS,
-        Err(error) => {
-            eprintln!("latency: {error}");
-            ExitCode::FAILURE
-        }
-    }
+    bench::run("latency", work)
 }
 
 fn work(quick: bool) -> Result<(), String> {
@@ -290,7 +275,7 @@ fn draw(path: &str, name: &str, lines: String, script: &str) -> Result<(), Strin
     match drawn() {
         Ok(status) if status.success() => Ok(()),
         Ok(status) => Err(format!("{path}: gnuplot ended with {status}")),
-        Err(error) => Err(format!("{path}, by gnuplot (Debian's package gnuplot-nox): {error}")),
+        Err(error) => Err(format!("{path}: {error}")),
     }
 }
 
