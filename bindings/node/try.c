@@ -65,7 +65,6 @@ struct part {
 
 struct event {
     uint64_t moment;
-    uint64_t order;
     size_t to;
     struct vcube_frame frame;
 };
@@ -106,9 +105,9 @@ static struct vcube_master_settings master_settings;
 static struct plan plans[MOST_PLANS];
 static size_t plan_count;
 
-static struct event heap[MOST_EVENTS];
+static struct event events[MOST_EVENTS];
+static size_t first_event;
 static size_t event_count;
-static uint64_t event_order;
 static uint64_t clock_now;
 static uint64_t soonest;                /* before this moment nothing happens but that frames come; 0 if it has to be looked for */
 static uint64_t cable_free;
@@ -247,49 +246,28 @@ uint8_t __wrap_vcube_board_not_replied(size_t wiring, size_t n, size_t board, ui
 
 /* ---- The cable ---- */
 
-static bool is_earlier(const struct event *a, const struct event *b)
-{
-    return a->moment != b->moment ? a->moment < b->moment : a->order < b->order;
-}
-
+/* The frames under way stand in the order in which they come; of those that come at one moment the first sent is first. */
 static void push_event(uint64_t moment, size_t to, const struct vcube_frame *frame)
 {
-    size_t at = event_count++;
-    struct event event;
+    size_t at;
 
-    if (at == MOST_EVENTS)
-        fail("too many frames under way");
-    event.moment = moment;
-    event.order = event_order++;
-    event.to = to;
-    event.frame = *frame;
-    while (at && is_earlier(&event, &heap[(at - 1) / 2])) {
-        heap[at] = heap[(at - 1) / 2];
-        at = (at - 1) / 2;
+    if (first_event + event_count == MOST_EVENTS) {
+        memmove(events, &events[first_event], event_count * sizeof events[0]);
+        first_event = 0;
     }
-    heap[at] = event;
+    if (event_count == MOST_EVENTS)
+        fail("too many frames under way");
+    for (at = first_event + event_count++; at > first_event && events[at - 1].moment > moment; at--)
+        events[at] = events[at - 1];
+    events[at].moment = moment;
+    events[at].to = to;
+    events[at].frame = *frame;
 }
 
 static struct event pop_event(void)
 {
-    const struct event first = heap[0];
-    const struct event last = heap[--event_count];
-    size_t at = 0;
-
-    for (;;) {
-        size_t child = 2 * at + 1;
-
-        if (child >= event_count)
-            break;
-        if (child + 1 < event_count && is_earlier(&heap[child + 1], &heap[child]))
-            child++;
-        if (!is_earlier(&heap[child], &last))
-            break;
-        heap[at] = heap[child];
-        at = child;
-    }
-    heap[at] = last;
-    return first;
+    event_count--;
+    return events[first_event++];
 }
 
 static bool is_out(void)
@@ -817,7 +795,7 @@ static uint64_t look_for_soonest(struct part **next_part, struct plan **next_pla
 static void run_until(uint64_t moment)
 {
     for (;;) {
-        const uint64_t coming = event_count ? heap[0].moment : NEVER;
+        const uint64_t coming = event_count ? events[first_event].moment : NEVER;
         struct part *next_part = NULL;
         struct plan *next_plan = NULL;
 
@@ -885,6 +863,15 @@ static void plan_at_random(enum action action)
         plans[plan_count++] = new_plan;
 }
 
+/* A scene of n boards that all keep the rules. */
+static void set_size(size_t n)
+{
+    scene.n = n;
+    scene.early = n;
+    scene.liar = n;
+    scene.undead = n;
+}
+
 static void choose(uint64_t seed)
 {
     static const size_t sizes[] = {2, 3, 4, 5, 6, 7, 8, 8, 9, 11, 12, 16, 16, 17, 23, 32, 33, 64};
@@ -895,7 +882,7 @@ static void choose(uint64_t seed)
     random_state = seed * UINT64_C(0x2545f4914f6cdd1d);
     scene.seed = seed;
     scene.wiring = seed % 2 ? VCUBE_WIRING_CUBE : VCUBE_WIRING_RING;
-    scene.n = sizes[below(sizeof sizes / sizeof sizes[0])];
+    set_size(sizes[below(sizeof sizes / sizeof sizes[0])]);
     scene.loss = losses[seed / 2 % 4];
     scene.is_lost_at_all = below(4) == 0;
     scene.doubled = below(2) ? 30 : 0;
@@ -908,9 +895,6 @@ static void choose(uint64_t seed)
     scene.stray = below(4) ? 0 : 10;
     scene.is_by_kind = below(2);
     scene.tells_sent = below(2);
-    scene.early = scene.n;
-    scene.liar = scene.n;
-    scene.undead = scene.n;
     scene.first_number = below(4) ? 0 : UINT32_MAX - (uint32_t)below(200);
     scene.entries = 100 + below(300) + 6 * scene.n;
     plan_count = 0;
@@ -935,10 +919,7 @@ static void choose(uint64_t seed)
     scene.is_brownout = seed % 17 == 0;
     if (seed % 8 == 1) {
         /* One board alone is stopped, again and again, where each frame takes long: its replies wait behind other frames. */
-        scene.n = 2 + below(3);
-        scene.early = scene.n;
-        scene.liar = scene.n;
-        scene.undead = scene.n;
+        set_size(2 + below(3));
         scene.delayed = 100;
         scene.delay = 5 * MILLISECOND;
         scene.stray = 0;
@@ -972,10 +953,8 @@ static void choose_fault(uint64_t seed)
         static const size_t sizes[] = {4, 8, 16, 5, 11, 32};
 
         scene.wiring = VCUBE_WIRING_CUBE;
-        scene.n = sizes[seed / 4 % 6];
+        set_size(sizes[seed / 4 % 6]);
         scene.early = below(scene.n);
-        scene.liar = scene.n;
-        scene.undead = scene.n;
         break;
     }
     case 1:
@@ -999,7 +978,6 @@ static void begin_run(void)
     const size_t length = VCUBE_TABLE_LENGTH(scene.n);
 
     event_count = 0;
-    event_order = 0;
     clock_now = 0;
     cable_free = 0;
     held_count = 0;
@@ -1834,11 +1812,8 @@ static void try_largest(size_t wiring)
 
     memset(&scene, 0, sizeof scene);
     scene.wiring = wiring;
-    scene.n = MOST_BOARDS;
     scene.is_by_kind = true;
-    scene.early = scene.n;
-    scene.liar = scene.n;
-    scene.undead = scene.n;
+    set_size(MOST_BOARDS);
     plan_count = 0;
     begin_run();
     parts[dead].is_killed = true;
