@@ -6,7 +6,7 @@
  * give the master's; and once the wait is over (RULES, "Bounds of the wait") each live board's own line must suspect just those who are not live.
  * So it prints one line of counts, or the first difference with its seed.
  *
- * Linked with --wrap of vcube_board_next and vcube_board_not_replied, so that a board can be given the order of groups of the early release. */
+ * Linked with early.c, by which a board can be given the order of groups of the early release. */
 
 #include "node.h"
 
@@ -186,62 +186,14 @@ static bool with_chance(unsigned per_cent)
     return per_cent && below(100) < per_cent;
 }
 
-/* ---- The early release ---- */
-
-/* Whether i is the first of the group of j, listed by rising number, that i does not suspect. */
-static bool is_due_early(size_t n, size_t i, const uint8_t *line, size_t distance)
-{
-    size_t half = 1;
-    const size_t j = i ^ distance;
-    size_t first;
-
-    while (2 * half <= distance)
-        half *= 2;
-    /* The group of j at this level is that half of the numbers in which i stands. */
-    first = (j ^ half) & ~(half - 1);
-    for (size_t k = first; k < first + half && k < n; k++)
-        if (k == i || !line[VCUBE_HEAD + k])
-            return j < n && k == i;
-    return false;
-}
+/* ---- The early release: early.c ---- */
 
 uint8_t __real_vcube_board_next(size_t wiring, size_t n, size_t board, const uint8_t *line, size_t line_length, size_t *tested);
-uint8_t __wrap_vcube_board_next(size_t wiring, size_t n, size_t board, const uint8_t *line, size_t line_length, size_t *tested);
-uint8_t __real_vcube_board_not_replied(size_t wiring, size_t n, size_t board, uint8_t *line, size_t line_length, size_t *outcome);
-uint8_t __wrap_vcube_board_not_replied(size_t wiring, size_t n, size_t board, uint8_t *line, size_t line_length, size_t *outcome);
+int has_early_order(size_t wiring, size_t board);
 
-static bool is_early(size_t wiring, size_t board)
+int has_early_order(size_t wiring, size_t board)
 {
     return board == scene.early && wiring == VCUBE_WIRING_CUBE;
-}
-
-uint8_t __wrap_vcube_board_next(size_t wiring, size_t n, size_t board, const uint8_t *line, size_t line_length, size_t *tested)
-{
-    const uint8_t refusal = __real_vcube_board_next(wiring, n, board, line, line_length, tested);
-
-    if (refusal || !is_early(wiring, board))
-        return refusal;
-    *tested = VCUBE_NO_STATION;
-    for (size_t distance = line[1]; distance < MOST_BOARDS; distance++)
-        if (is_due_early(n, board, line, distance)) {
-            *tested = board ^ distance;
-            break;
-        }
-    return refusal;
-}
-
-/* Where the early release finds no test any more, it finishes its pass. */
-uint8_t __wrap_vcube_board_not_replied(size_t wiring, size_t n, size_t board, uint8_t *line, size_t line_length, size_t *outcome)
-{
-    size_t tested;
-
-    if (!is_early(wiring, board) || __wrap_vcube_board_next(wiring, n, board, line, line_length, &tested) || tested != VCUBE_NO_STATION)
-        return __real_vcube_board_not_replied(wiring, n, board, line, line_length, outcome);
-    *outcome = VCUBE_OUTCOME_PASS_FINISHED;
-    for (line[1] = 1; line[1] < n; line[1] = (uint8_t)(2 * line[1]))
-        continue;
-    line[2] = 1;
-    return VCUBE_ACCEPTED;
 }
 
 /* ---- The cable ---- */
