@@ -1,4 +1,4 @@
-/* Makes the calls of a record (tests/harness/compare/src/record.rs says how they stand there) by whatever is linked behind include/vcube.h, and
+/* Makes the calls of a record (tests/harness/shared/src/record.rs says how they stand there) by whatever is linked behind include/vcube.h, and
  * compares number and buffers with what the record says.
  *
  * Usage: replay FILE [MOST_STATIONS MOST_RESULTS]

@@ -3,11 +3,13 @@
 
 use std::path::Path;
 
+use shared::call::{Answer, Call};
+use shared::header::{self, Function};
+use shared::record;
+
 use crate::answer::answer;
-use crate::call::{Answer, Call};
 use crate::generate::Source;
-use crate::header::{self, Function};
-use crate::{record, replayer};
+use crate::replayer;
 
 /// Among so many calls each function has one that is accepted.
 const ENOUGH: u64 = 6_000;

@@ -5,7 +5,7 @@
 
 use simulator::{Figures, Fraction, Given, Totals};
 
-use crate::call::{members, number, Answer, Call};
+use shared::call::{members, number, Answer, Call};
 
 pub fn answer(call: &Call) -> Answer {
     let mut arguments = call.arguments.clone();

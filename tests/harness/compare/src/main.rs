@@ -6,12 +6,9 @@ mod altered;
 mod answer;
 mod blocks;
 mod boards;
-mod call;
 mod generate;
-mod header;
 mod options;
 mod printed;
-mod record;
 mod replayer;
 mod smallest;
 
@@ -21,6 +18,8 @@ use std::io::{self, BufReader, Read, Write};
 use std::panic;
 use std::path::{Path, PathBuf};
 use std::process::ExitCode;
+
+use shared::record::Reader;
 
 use generate::Source;
 use options::{Options, Task};
@@ -129,11 +128,11 @@ fn answer_again(path: &Path) -> Result<String, String> {
         Some("-") => Box::new(io::stdin().lock()),
         _ => Box::new(File::open(path).map_err(failed)?),
     };
-    let mut calls = record::Reader(BufReader::with_capacity(1 << 20, from));
+    let mut calls = Reader(BufReader::with_capacity(1 << 20, from));
     panic::set_hook(Box::new(|_| {}));
     let mut different = BTreeMap::new();
     let mut made = 0;
-    while let Some((call, recorded)) = calls.next().map_err(failed)? {
+    while let Some((call, recorded)) = calls.next_call().map_err(failed)? {
         made += 1;
         let given = panic::catch_unwind(|| answer::answer(&call)).ok();
         if given.as_ref() != Some(&recorded) {

@@ -3,7 +3,7 @@
 //!
 //! Usage: replay-typed FILE
 //!
-//! FILE may be `-`, which is standard input. tests/harness/compare/src/record.rs says
+//! FILE may be `-`, which is standard input. tests/harness/shared/src/record.rs says
 //! how a record is written; `compare --with` starts this program.
 //!
 //! Each call on a table is made twice: by the function over slices, and by the method of
@@ -19,11 +19,13 @@
 use std::collections::BTreeSet;
 use std::env;
 use std::fs::File;
-use std::io::{self, BufRead, BufReader};
+use std::io::{self, BufReader, Read};
 use std::panic;
 use std::process::ExitCode;
 use std::sync::atomic::{AtomicU64, Ordering};
 
+use shared::header::Function;
+use shared::record::Reader;
 use vcube::*;
 
 use Argument::{Bytes, Counter, Figure, Members, Number, Results, Size};
@@ -47,14 +49,6 @@ enum Argument {
     Members(Vec<u64>),
 }
 
-/// A recorded call: its arguments before it and after it, and the number.
-struct Call {
-    function: String,
-    before: Vec<Argument>,
-    after: Vec<Argument>,
-    number: u8,
-}
-
 /// Numbers of eight bytes, the low one first.
 fn wide(bytes: &[u8]) -> Vec<u64> {
     let (numbers, _) = bytes.as_chunks();
@@ -74,65 +68,20 @@ fn results(bytes: &[u8]) -> Vec<u16> {
     results.iter().copied().map(u16::from_le_bytes).collect()
 }
 
-/// What stands at a pointer of this form.
-fn pointed(form: u8, bytes: &[u8]) -> Option<Argument> {
-    Some(match form.to_ascii_lowercase() {
-        b'b' => Bytes(bytes.to_vec()),
-        b'r' => Results(results(bytes)),
-        b's' => Figure(size(bytes)),
-        b'i' => Counter(narrow(bytes)),
-        b't' => Members(wide(bytes)),
-        _ => return None,
-    })
-}
-
-fn take(record: &mut impl BufRead, length: usize) -> io::Result<Vec<u8>> {
-    let mut bytes = vec![0; length];
-    record.read_exact(&mut bytes)?;
-    Ok(bytes)
-}
-
-/// The next call of a record; none at its end.
-fn next_call(record: &mut impl BufRead) -> io::Result<Option<Call>> {
-    let mut function = Vec::new();
-    if record.read_until(0, &mut function)? == 0 {
-        return Ok(None);
-    }
-    function.pop();
-    let (mut before, mut after) = (Vec::new(), Vec::new());
-    loop {
-        let form = take(record, 1)?[0];
-        let (one, other) = match form {
-            b'.' => break,
-            b'n' => {
-                let number = Size(size(&take(record, 8)?));
-                (number.clone(), number)
-            }
-            b'w' => {
-                let number = Number(narrow(&take(record, 4)?));
-                (number.clone(), number)
-            }
-            _ => {
-                let length = narrow(&take(record, 4)?) as usize;
-                let bytes = take(record, length)?;
-                let left = match take(record, 1)?[0] {
-                    b'=' => bytes.clone(),
-                    _ => take(record, length)?,
-                };
-                let unknown = || io::Error::other(format!("an argument of the form {form}"));
-                let one = pointed(form, &bytes).ok_or_else(unknown)?;
-                (one, pointed(form, &left).ok_or_else(unknown)?)
-            }
-        };
-        before.push(one);
-        after.push(other);
-    }
-    Ok(Some(Call {
-        function: String::from_utf8_lossy(&function).into_owned(),
-        before,
-        after,
-        number: take(record, 1)?[0],
-    }))
+/// What a call has as its arguments, before or after it.
+fn arguments(function: &Function, values: &[Vec<u8>]) -> Vec<Argument> {
+    let arguments = function.arguments.iter().zip(values);
+    let typed =
+        arguments.map(|(argument, bytes)| match argument.form.letter.to_ascii_lowercase() {
+            b'n' => Size(size(bytes)),
+            b'w' => Number(narrow(bytes)),
+            b'b' => Bytes(bytes.clone()),
+            b'r' => Results(results(bytes)),
+            b's' => Figure(size(bytes)),
+            b'i' => Counter(narrow(bytes)),
+            _ => Members(wide(bytes)),
+        });
+    typed.collect()
 }
 
 /// 0 or the number of the refusal.
@@ -385,7 +334,7 @@ enum Made {
 }
 
 /// Makes a call, through the types if they can express it: what it gives is then put
-/// where the library would put it. None where the header has no such call.
+/// where the library would put it. None where it is a call that is not made here.
 fn make(function: &str, lent: &mut [Argument]) -> Option<Made> {
     let number = match (function, lent) {
         ("vcube_fresh_table", [Size(wired), Size(n), Bytes(table)]) => {
@@ -830,13 +779,14 @@ enum Fault {
 use Fault::{Differs, Unreadable};
 
 /// Makes all calls of a record; says how many.
-fn replay(mut record: impl BufRead) -> Result<String, Fault> {
+fn replay(record: impl Read) -> Result<String, Fault> {
+    let mut record = Reader(record);
     let (mut calls, mut by_numbers, mut functions) = (0, 0, BTreeSet::new());
     let unreadable = |error: io::Error| Unreadable(error.to_string());
-    while let Some(call) = next_call(&mut record).map_err(unreadable)? {
+    while let Some((call, recorded)) = record.next_call().map_err(unreadable)? {
         calls += 1;
-        let function = &call.function;
-        let mut lent = call.before;
+        let function = call.function.name;
+        let mut lent = arguments(call.function, &call.arguments);
         CALL.store(calls, Ordering::Relaxed);
         let made = make(function, &mut lent);
         let differs = |what| Err(Differs(format!("call {calls}, {function}: {what}")));
@@ -846,17 +796,16 @@ fn replay(mut record: impl BufRead) -> Result<String, Fault> {
                 by_numbers += 1;
                 number
             }
-            None => {
-                return Err(Unreadable(format!("the header has no such call of {function}")));
-            }
+            None => return Err(Unreadable(format!("{function} is a call that is not made here"))),
         };
-        if number != call.number {
-            return differs(format!("number {number}, and not {}", call.number));
+        if number != recorded.number {
+            return differs(format!("number {number}, and not {}", recorded.number));
         }
-        if let Some(place) = (0..lent.len()).find(|place| lent[*place] != call.after[*place]) {
+        let after = arguments(call.function, &recorded.arguments);
+        if let Some(place) = (0..lent.len()).find(|place| lent[*place] != after[*place]) {
             return differs(format!("argument {} is otherwise than recorded", place + 1));
         }
-        functions.insert(call.function);
+        functions.insert(function);
     }
     if calls == 0 {
         return Err(Unreadable("it has no call".into()));

@@ -1,5 +1,6 @@
 //! Calls of a board. Its line is one of a table, and what it hears is mostly the row of another line of that table.
 
+use shared::call::{size, Call};
 use shared::groups::SIZES;
 use shared::random::Random;
 use shared::table::{line_length, live_stations, unfinished_stations, HEAD, STATUS};
@@ -7,7 +8,6 @@ use shared::wiring::Wiring;
 use simulator::{board_next, Given};
 
 use super::{lines, numbers, tables, Size};
-use crate::call::{size, Call};
 
 /// Bits of a byte.
 const BITS: usize = 8;
@@ -185,7 +185,7 @@ mod tests {
 
     use super::*;
     use crate::answer::answer;
-    use crate::call::number;
+    use shared::call::number;
 
     /// The refusals of each call, as docs/RULES.md lists them, and 0.
     const NUMBERS: [(&str, &[u8]); 8] = [

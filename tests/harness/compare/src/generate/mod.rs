@@ -19,7 +19,7 @@ use shared::groups;
 use shared::random::Random;
 use shared::wiring::Wiring;
 
-use crate::call::Call;
+use shared::call::Call;
 
 /// The size of the plant that a call is made for.
 type Size = usize;

@@ -1,12 +1,12 @@
 //! Calls on a plant: those that take a size.
 
+use shared::call::{size, word, Call};
 use shared::groups::{assignment_length, distances, group_length};
 use shared::random::Random;
 use shared::table::{line_length, live_stations, table_length, unfinished_stations, HEAD};
 use shared::wiring::Wiring;
 
 use super::{lines, mostly_cube, numbers, schedules, tables, Size};
-use crate::call::{size, word, Call};
 
 /// The bytes of a change in a report.
 const CHANGE: usize = 4;

@@ -1,12 +1,12 @@
 //! Calls on files: saves, loads and conversions, and the questions before these.
 
+use shared::call::{size, word, Call};
 use shared::groups::{distances, SIZES};
 use shared::random::Random;
 use shared::table::table_length;
 
 use super::files::{former_saved_length, former_table_length, saved_length, FIELD_HEAD};
 use super::{files, mostly_cube, numbers, tables, Size};
-use crate::call::{size, word, Call};
 
 pub fn save(n: Size, random: &mut Random) -> Call {
     let (given, table) = tables::given(mostly_cube(random), n, random);

@@ -44,7 +44,7 @@ pub struct Reader<R>(pub R);
 
 impl<R: Read> Reader<R> {
     /// The next call, if there is one, and its answer.
-    pub fn next(&mut self) -> io::Result<Option<(Call, Answer)>> {
+    pub fn next_call(&mut self) -> io::Result<Option<(Call, Answer)>> {
         let mut name = Vec::new();
         match self.byte() {
             Err(error) if error.kind() == io::ErrorKind::UnexpectedEof => return Ok(None),

@@ -1,7 +1,7 @@
 //! A call is data: its function, and for each argument bytes. Those of a number are the number, those of a pointer what stands there, items
 //! one behind the other. Numbers have their low byte first; those of `size_t` have eight bytes, the others as many as in C.
 
-use shared::random::Random;
+use crate::random::Random;
 
 use crate::header::{self, Function};
 
