@@ -3,10 +3,12 @@
 //! A call is the name of its function in include/vcube.h with a zero byte behind it; then its arguments in the header's order, each behind a
 //! letter that says what it is; then a full stop and the number that it gives, in one byte. The letters are
 //!
-//!     n  a size_t, eight bytes             w  a uint32_t, four bytes
-//!     b  pointer to bytes and their number r  pointer to results (uint16_t) and their number
-//!     s  pointer to a size_t               i  pointer to a uint32_t
-//!     t  pointer to a struct of uint64_t
+//! ```text
+//! n  a size_t, eight bytes             w  a uint32_t, four bytes
+//! b  pointer to bytes and their number r  pointer to results (uint16_t) and their number
+//! s  pointer to a size_t               i  pointer to a uint32_t
+//! t  pointer to a struct of uint64_t
+//! ```
 //!
 //! and in capitals (B, R, T) where the pointer is to const. What stands at a pointer is the number of its bytes, in four bytes, the bytes, and
 //! then `=`, where the call leaves them as they were, or `~` and the bytes after the call. All numbers have their low byte first.
