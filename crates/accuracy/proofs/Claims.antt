@@ -280,7 +280,7 @@ mixed-accurate n s ys long = subst (Accurate n s (runs_of_mixed s ys)) (mixed-le
 -- drives have no late reply
 pub drives-tell-nobody : DrivesTellNobody
 drives-tell-nobody w n s lasts long none =
-    (mixed-accurate n s (map (a_drive w n) lasts) long).none_late none (drives-pass w (λ x. not (is_late x)) (λ n s i. refl) n s lasts)
+    (mixed-accurate n s (map (a_drive (Ok w) n) lasts) long).none_late none (drives-pass w (λ x. not (is_late x)) (λ n s i. refl) n s lasts)
 
 -- of the last one of a list
 after-mixed-last : (s : State) (ys : List RunOrDrive) (y : RunOrDrive) → after_mixed s (ys ++ (y ∷ [])) ≡ after_one (after_mixed s ys) y

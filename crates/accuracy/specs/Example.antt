@@ -1,6 +1,6 @@
 -- One late reply, followed by hand: of eight stations the late one leaves, told by another than the one that tested it; of two both leave.
 -- Assumes nothing.
-use Rattle.std.specs.Prelude.{◌≡◌, ℕ, true, false, List, [], ◌∷◌}
+use Rattle.std.specs.Prelude.{◌≡◌, ℕ, true, false, List, [], ◌∷◌, None, Ok}
 use Rattle.table.specs.Table.{status, status_told, told_by}
 use Rattle.table.specs.Fresh.{fresh_table}
 use Rattle.table.specs.declared.wiring.Wiring.TheVariants.{Cube, Ring}
@@ -38,8 +38,8 @@ pub record OneOfEight : Type 0 where
   pub sheet : followed.sheet ≡ followed_sheet
   pub left : status 8 followed.state.table 5 ≡ status_told
   pub teller : told_by 8 followed.state.table 5 ≡ 7
-  pub late : was_late 5 (taken_in eight_stations (call_of Cube 8 followed_schedule blank_of_four)) ≡ true
-  pub others : was_late 7 (taken_in eight_stations (call_of Cube 8 followed_schedule blank_of_four)) ≡ false
+  pub late : was_late 5 (taken_in eight_stations (call_of (Ok Cube) 8 followed_schedule blank_of_four)) ≡ true
+  pub others : was_late 7 (taken_in eight_stations (call_of (Ok Cube) 8 followed_schedule blank_of_four)) ≡ false
 
 -- 0 tests 1, whose reply is late; then 1 tests 0
 abbrev pub late_schedule : List ℕ
@@ -63,11 +63,11 @@ abbrev pub two_stations : State
 two_stations = state_of (fresh_table 2) 0 0
 
 abbrev pub two_left : RunResult
-two_left = record { number = 0; taken = 2; state = state_of late_table 0 2; sheet = late_sheet }
+two_left = record { stopped = None; taken = 2; state = state_of late_table 0 2; sheet = late_sheet }
 
 -- Rule Two of two: one reply was late, that of 1, and nobody is live any more. So rule What a late reply costs asks for two more live stations
 pub record TwoOfTwo : Type 0 where
   pub on_cube : run Cube 2 two_stations late_schedule blank ≡ two_left
   pub on_ring : run Ring 2 two_stations late_schedule blank ≡ two_left
-  pub late : count_taken is_late (taken_in two_stations (call_of Cube 2 late_schedule blank)) ≡ 1
-  pub whose : was_late 1 (taken_in two_stations (call_of Cube 2 late_schedule blank)) ≡ true
+  pub late : count_taken is_late (taken_in two_stations (call_of (Ok Cube) 2 late_schedule blank)) ≡ 1
+  pub whose : was_late 1 (taken_in two_stations (call_of (Ok Cube) 2 late_schedule blank)) ≡ true

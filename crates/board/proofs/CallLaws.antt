@@ -18,9 +18,9 @@ use Rattle.table.proofs.WiringLaws.{size-end}
 use Rattle.board.specs.Calls.{line_rules, place_check}
 
 -- a board of the plant, with a line of its length, is in its place
-pub place_ok : (x : Wiring) (n i len : ℕ) → is_size n ≡ true → i < n → len ≡ stride n → place_check x n i len ≡ Ok tt
+pub place_ok : (n i len : ℕ) → is_size n ≡ true → i < n → len ≡ stride n → place_check n i len ≡ Ok tt
 unfolding place_check
-place_ok x n i len size below long = rw (size, lt-ltb i n below, eq-eqb len (stride n) long) refl
+place_ok n i len size below long = rw (size, lt-ltb i n below, eq-eqb len (stride n) long) refl
 
 line-pass : (w : Wiring) (n i : ℕ) (l : List ℕ) → line_rules w n i l ≡ true
     → Pass (end_distance w n) (get_or l next_column 0) (get_or l finished_column 0) (get_or l tests_column 0)

@@ -450,7 +450,7 @@ fresh-row n k h =
     fresh-at n (head + k) 0 (omega arith)
     (rw (ne_eqb (head + k) next_column (λ e. omega arith), ne_eqb (head + k) told_by_column (λ e. omega arith)) refl)
 
-fresh-good : (w : Wiring) (n i len : ℕ) → place_check w n i len ≡ Ok tt → Good w n i (fresh_line n)
+fresh-good : (w : Wiring) (n i len : ℕ) → place_check n i len ≡ Ok tt → Good w n i (fresh_line n)
 unfolding place_check exit_rule
 fresh-good w n i len e =
     let q = and_ok _ _ tt e in

@@ -20,13 +20,13 @@ unfoldable pub line_rules : Wiring → ℕ → ℕ → List ℕ → Bool
 line_rules w n i l = head_rules_by w n i (slice_index l) && row_rule_by n i (suspicion_of l)
 
 -- refusals 1, 9 and 25: n is not 2 to 64; the board's number is n or more; the line has not n + 6 bytes
-unfoldable pub place_check : Wiring → ℕ → ℕ → ℕ → Check
-place_check w n i len =
+unfoldable pub place_check : ℕ → ℕ → ℕ → Check
+place_check n i len =
     ensure (is_size n) SizeOutOfRange and station_check n i and ensure (len == stride n) LineLength
 
 -- then 3: the line breaks a line rule
 unfoldable pub line_check : Wiring → ℕ → ℕ → List ℕ → Check
-line_check w n i l = place_check w n i (length l) and ensure (line_rules w n i l) LineRule
+line_check w n i l = place_check n i (length l) and ensure (line_rules w n i l) LineRule
 
 -- then 10: the board is not live
 unfoldable pub live_check : Wiring → ℕ → ℕ → List ℕ → Check
@@ -41,8 +41,8 @@ unfoldable pub replied_check : Wiring → ℕ → ℕ → List ℕ → ℕ → C
 replied_check w n i l len = turn_check w n i l and length_check (packed_length n) len
 
 -- Rule Board, fresh: a line of a fresh table
-abbrev pub fresh_after : Wiring → ℕ → ℕ → List ℕ → List ℕ
-fresh_after w n i l = unless_refused (place_check w n i (length l)) l (list_of (fresh_byte n) (stride n))
+abbrev pub fresh_after : ℕ → ℕ → List ℕ → List ℕ
+fresh_after n i l = unless_refused (place_check n i (length l)) l (list_of (fresh_byte n) (stride n))
 
 -- Rule Board, row: what the board answers to a test, or sends as an exchange: its row, packed. Refusals to 10; 13: there is not room for just that
 unfoldable pub row_check : Wiring → ℕ → ℕ → List ℕ → ℕ → Check

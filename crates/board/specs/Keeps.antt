@@ -18,4 +18,4 @@ CallsKeepTheRules = (w : Wiring) (n i : ℕ) (l : List ℕ) → line_check w n i
 
 -- and a fresh line is let through
 abbrev pub FreshLineIsOne : Type 0
-FreshLineIsOne = (w : Wiring) (n i : ℕ) (l : List ℕ) → place_check w n i (length l) ≡ Ok tt → line_check w n i (fresh_after w n i l) ≡ Ok tt
+FreshLineIsOne = (w : Wiring) (n i : ℕ) (l : List ℕ) → place_check n i (length l) ≡ Ok tt → line_check w n i (fresh_after n i l) ≡ Ok tt

@@ -60,14 +60,11 @@ impl Board {
     }
 
     // Fills the line: live, next distance 1, byte 4 255, all else 0.
-    #[tactic(auto, using(lists::proofs::Loops::loops))]
     pub(crate) fn write_fresh(self, line: &mut [u8])
         requires { length line.old ≡ stride self.wired.n }
         ensures { line.new ≡ list_of (fresh_byte self.wired.n) (stride self.wired.n) }
     {
-        for (p, byte) in line.iter_mut().enumerate() {
-            *byte = fresh::fresh_byte(self.wired.n, p);
-        }
+        fresh::write_line(self.wired.n, line);
     }
 
     // The distance of the next test; the end distance where there is none.

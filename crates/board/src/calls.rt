@@ -15,8 +15,8 @@ use table::wiring::Wiring;
 
 // The line becomes a line of a fresh table.
 pub fn fresh(wiring: Wiring, n: usize, own: Station, line: &mut [u8]) -> Result<(), Refusal>
-    ensures check { result ≡ place_check wiring n own.0 (length line.old) }
-    ensures line_after { line.new ≡ fresh_after wiring n own.0 line.old }
+    ensures check { result ≡ place_check n own.0 (length line.old) }
+    ensures line_after { line.new ≡ fresh_after n own.0 line.old }
 {
     let board = Board::checked(wiring, n, own, line.len())?;
     board.write_fresh(line);

@@ -23,7 +23,7 @@ impl Board {
         len: usize,
     ) -> Result<Board, Refusal>
         ensures check { result_map_both (λ b. tt) (λ r. r) result
-            ≡ place_check wiring n own.0 len }
+            ≡ place_check n own.0 len }
         ensures same_wiring { IfOk result (λ b. b.wired.wiring ≡ wiring) }
         ensures same_size { IfOk result (λ b. b.wired.n ≡ n) }
         ensures same_number { IfOk result (λ b. b.own ≡ own) }

@@ -17,7 +17,7 @@ use Rattle.table.specs.declared.wiring.Wiring.{Wiring}
 use Rattle.plant.specs.Entry.{Entry, State, state_of, tally_top}
 use Rattle.plant.specs.Run.{entries, start_check, go_on, run}
 use Rattle.plant.proofs.RunLaws.{accepted-number}
-use Rattle.detection.specs.Runs.{Call, Taken, call_of, after_run, after_runs, taken_from, taken_in, taken_all, taken_test, is_turn_of}
+use Rattle.detection.specs.Runs.{Call, Taken, call_of, after_run, after_runs, taken_from, taken_by, taken_in, taken_all, taken_test, is_turn_of}
 use Rattle.detection.specs.Rounds.{count_taken, tests_in}
 use Rattle.detection.specs.Claim.{rounds_of, all_rounds, round_at, DetectionPremises, DetectionConclusion, Detection, square_rounds}
 use Rattle.detection.specs.Claim.{triangle_rounds, worst_rounds}
@@ -58,7 +58,7 @@ module _ (w : Wiring) (n : ℕ) (b : Lines) (es : List Entry) (begin : BoardsBeg
 
   -- one run of all entries
   abbrev c : Call
-  c = call_of w n (bytes_of es) sheet
+  c = call_of (Ok w) n (bytes_of es) sheet
 
   abbrev calls : List Call
   calls = c ∷ []
@@ -85,7 +85,7 @@ module _ (w : Wiring) (n : ℕ) (b : Lines) (es : List Entry) (begin : BoardsBeg
       rw (check, even, eq-eqb (length sheet) (2 * length (bytes_of es)) (length-replicate (2 * length (bytes_of es)) 0))
 
   all-taken : taken_all s calls ≡ taken
-  unfolding taken_all taken_in
+  unfolding taken_all taken_by
   all-taken = append-nil (taken_in s c) ∙ rw (starts, entries-back es)
 
   end : after_runs s calls ≡ (go_on w n 0 s sheet es).state

@@ -53,8 +53,8 @@ module _ (w : Wiring) (n : ℕ) (t : List ℕ) (ok : Accepted w n t) (start : at
 -- an end in itself
 pub fresh-boards-begin : FreshBoardsBegin
 fresh-boards-begin w n b fits some =
-    let first = good w n 0 (fresh_after w n 0 (b 0)) (fresh-is-one w n 0 (b 0) (fits 0 some)) in
+    let first = good w n 0 (fresh_after n 0 (b 0)) (fresh-is-one w n 0 (b 0) (fits 0 some)) in
     let ok = accepted w n (fresh_table n) (fresh-accepted n w first.size) in
     let given = fresh-premises w n 0 0 first.size in
-    lines-begin w n (fresh_table n) ok given.start given.two_live given.accurate (λ i. fresh_after w n i (b i))
-    (λ k h. fresh-boards w n k (b k) (fits k h))
+    lines-begin w n (fresh_table n) ok given.start given.two_live given.accurate (λ i. fresh_after n i (b i))
+    (λ k h. fresh-boards n k (b k) (fits k h))

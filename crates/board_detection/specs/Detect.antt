@@ -99,5 +99,5 @@ BoardsDetect rounds =
 -- Rule Conditions are met: boards that have called Board, fresh meet what is supposed of the boards, whatever their lines were before
 abbrev pub FreshBoardsBegin : Type 0
 FreshBoardsBegin =
-    (w : Wiring) (n : ℕ) (b : Lines) → ((i : ℕ) → i < n → place_check w n i (length (b i)) ≡ Ok tt) → 0 < n
-    → BoardsBegin w n (λ i. fresh_after w n i (b i))
+    (w : Wiring) (n : ℕ) (b : Lines) → ((i : ℕ) → i < n → place_check n i (length (b i)) ≡ Ok tt) → 0 < n
+    → BoardsBegin w n (λ i. fresh_after n i (b i))

@@ -4,6 +4,7 @@ use mathlib.Core.Path.{◌≡◌, sym, ◌∙◌}
 use Prim.Native.Nat.{ℕ, ◌<◌}
 use Rattle.lists.specs.Search.{list_of}
 use Rattle.lists.proofs.SearchLaws.{list_of-length, list_of-at}
+use Rattle.table.specs.declared.wiring.Wiring.TheVariants.{Cube}
 use Rattle.table.specs.Table.{stride}
 use Rattle.table.specs.Line.{line}
 use Rattle.table.specs.Fresh.{fresh_byte, fresh_table}
@@ -20,4 +21,4 @@ fresh-line n i h =
 
 -- fresh boards, an end in itself
 pub fresh-boards : FreshBoards
-fresh-boards w n i l e = let g = good w n i (fresh_after w n i l) (fresh-is-one w n i l e) in rw e (sym (fresh-line n i g.below))
+fresh-boards n i l e = let g = good Cube n i (fresh_after n i l) (fresh-is-one Cube n i l e) in rw e (sym (fresh-line n i g.below))

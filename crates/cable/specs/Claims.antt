@@ -71,4 +71,4 @@ LinesOfTables = (w : Wiring) (n : ℕ) (t : List ℕ) (i : ℕ) → table_check 
 
 -- Rule Fresh boards: the line that call Board, fresh leaves, where it is not refused, is that line of the fresh table
 abbrev pub FreshBoards : Type 0
-FreshBoards = (w : Wiring) (n i : ℕ) (l : List ℕ) → place_check w n i (length l) ≡ Ok tt → fresh_after w n i l ≡ line n (fresh_table n) i
+FreshBoards = (n i : ℕ) (l : List ℕ) → place_check n i (length l) ≡ Ok tt → fresh_after n i l ≡ line n (fresh_table n) i

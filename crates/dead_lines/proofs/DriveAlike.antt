@@ -6,7 +6,7 @@ use mathlib.Core.List.{List, [], ◌∷◌}
 use Prim.Native.Nat.{ℕ, zero, suc, ◌-◌, ◌≤◌, ◌<◌}
 use native.Mathlib.Omega.{arith}
 use lib.Dec.{eqb}
-use Rattle.lists.specs.Refusal.{number_of}
+use Rattle.lists.specs.declared.refusal.Refusal.{Refusal}
 use Rattle.lists.proofs.BoolLaws.{least-same}
 use Rattle.lists.proofs.RefusalLaws.{and_same, by_check}
 use Rattle.std.proofs.lemmas.List.Elements.{All-head, All-tail}
@@ -25,12 +25,13 @@ use Rattle.granter.proofs.DriveLaws.{not_stopped, next-taken, drive-made}
 use Rattle.granter.proofs.Stops.{drive-stops}
 use Rattle.detection.specs.Driven.{RunOrDrive, a_run, a_drive, after_one, after_mixed}
 use Rattle.detection.proofs.DriveRuns.{driving-at}
-use Rattle.dead_lines.specs.Alike.{Alike, StayAlike, SameDrive, wiring_given, GrantOfAlike, DriveOfAlike, answer_of, answers_of, MixedOfAlike}
+use Rattle.dead_lines.specs.Alike.{Alike, StayAlike, SameDrive, IsOn, wiring_given, GrantOfAlike, DriveOfAlike, answer_of, answers_of}
+use Rattle.dead_lines.specs.Alike.{MixedOfAlike}
 use Rattle.dead_lines.proofs.Writes.{Twins, Step, still, then}
 use Rattle.dead_lines.proofs.TurnAlike.{some-live-same, finished-same}
 use Rattle.dead_lines.proofs.RunAlike.{Both, check-same, after-step, after-both, alike-both, size-is}
-use Rattle.dead_lines.proofs.RunAlike.{tables-checked, stays, stay-still, stay-then, call-of-alike}
-use Rattle.std.specs.Prelude.{Ok}
+use Rattle.dead_lines.proofs.RunAlike.{tables-checked, stays, stay-still, stay-then, run-of-alike}
+use Rattle.std.specs.Prelude.{Ok, Err, Option, Some}
 
 -- who is granted goes by who waits
 module _ (n : ℕ) (t u : List ℕ) (tw : Twins n t u) where
@@ -65,7 +66,8 @@ module _ (w : Wiring) (n : ℕ) (s r : State) (a : Alike w n s r) (m last : ℕ)
       (λ ok. rw (size-is w n s r a m (sym (grant_ok w m r.table last tt ok).ok.long), granted-same n s.table r.table tables last)))
 
 pub grant-of-alike : GrantOfAlike
-grant-of-alike = grant-same
+grant-of-alike w n s r a (Ok v) m last on = rw on (grant-same w n s r a m last)
+grant-of-alike w n s r a (Err x) m last on = refl
 
 -- where two drives stand after k grants
 record Grants (w : Wiring) (n : ℕ) (p q : Stand) (k : ℕ) : Type 0 where
@@ -161,32 +163,36 @@ module _ (w : Wiring) (n : ℕ) (s r : State) (a : Alike w n s r) (last : ℕ) (
       let z' : grant_check w n r.table last ≡ Ok tt = sym (grant-checked w n s r a n last) ∙ z in
       rw (← drive-made w n s last made z stop, ← drive-made w n r last made z' other-stop) made-same
 
-refused : (w : Wiring) (n : ℕ) (s r : State) → Alike w n s r → (number last : ℕ)
-    → SameDrive w n s r (drive_outcome number s last 0) (drive_outcome number r last 0)
-refused w n s r a number last = record { answer = rw (a.rounds, a.tests); left = stay-still w n s r a }
+refused : (w : Wiring) (n : ℕ) (s r : State) → Alike w n s r → (by : Option Refusal) (last : ℕ)
+    → SameDrive w n s r (drive_outcome by s last 0) (drive_outcome by r last 0)
+refused w n s r a by last = record { answer = rw (a.rounds, a.tests); left = stay-still w n s r a }
 
--- a drive, an end in itself
-pub drive-of-alike : DriveOfAlike
+on-wiring-alike : (w : Wiring) (n : ℕ) (s r : State) → Alike w n s r → (m last : ℕ) → SameDrive w n s r (drive w m s last) (drive w m r last)
 unfolding drive
-drive-of-alike w n s r a m last =
+on-wiring-alike w n s r a m last =
     by_check (grant_check w m s.table last)
     (λ z.
     let z' : grant_check w m r.table last ≡ Ok tt = sym (grant-checked w n s r a m last) ∙ z in
     let same : m ≡ n = size-is w n s r a m (sym (grantable w m r.table last z').ok.long) in
     rw same (drive-same w n s r a last (rw same at z)))
-    (λ x z. rw (← grant-checked w n s r a m last, z) (refused w n s r a (number_of x) last))
+    (λ x z. rw (← grant-checked w n s r a m last, z) (refused w n s r a (Some x) last))
+
+-- a drive, an end in itself
+pub drive-of-alike : DriveOfAlike
+drive-of-alike w n s r a (Ok v) m last on = rw on (on-wiring-alike w n s r a m last)
+drive-of-alike w n s r a (Err x) m last on = refused w n s r a (Some x) last
 
 -- one of a mixed list
-one-same : (w : Wiring) (n : ℕ) (s r : State) → Alike w n s r → (x : RunOrDrive) → wiring_given x ≡ w
+one-same : (w : Wiring) (n : ℕ) (s r : State) → Alike w n s r → (x : RunOrDrive) → IsOn w (wiring_given x)
     → (answer_of s x ≡ answer_of r x) × StayAlike w n s r (after_one s x) (after_one r x)
-one-same w n s r a (a_run c) on = let f = call-of-alike w n s r a c on in (f.answer, f.left)
-one-same w n s r a (a_drive v m last) on = rw on (let f = drive-of-alike w n s r a m last in (f.answer, f.left))
+one-same w n s r a (a_run c) on = let f = run-of-alike w n s r a c.wiring c.size c.schedule c.sheet on in (f.answer, f.left)
+one-same w n s r a (a_drive v m last) on = let f = drive-of-alike w n s r a v m last on in (f.answer, f.left)
 
 -- a mixed list, an end in itself
 pub mixed-of-alike : MixedOfAlike
 unfolding answers_of after_mixed
 mixed-of-alike w n s r a [] on = (refl, stay-still w n s r a)
 mixed-of-alike w n s r a (x ∷ xs) on =
-    let one = one-same w n s r a x (All-head (λ (x : RunOrDrive). wiring_given x ≡ w) x xs on) in
-    let rest = mixed-of-alike w n (after_one s x) (after_one r x) one.1.alike xs (All-tail (λ (x : RunOrDrive). wiring_given x ≡ w) x xs on) in
+    let one = one-same w n s r a x (All-head (λ (x : RunOrDrive). IsOn w (wiring_given x)) x xs on) in
+    let rest = mixed-of-alike w n (after_one s x) (after_one r x) one.1.alike xs (All-tail (λ (x : RunOrDrive). IsOn w (wiring_given x)) x xs on) in
     (ap₂ ◌∷◌ one.0 rest.0, stay-then one.1 rest.1)

@@ -8,7 +8,7 @@ use native.Mathlib.Omega.{arith}
 use borrow.Author.Tests.{le-ltb}
 use mathlib.Core.Logic.{by_cases}
 use lib.ListN.{length}
-use Rattle.lists.specs.Refusal.{number_of}
+use Rattle.lists.specs.declared.refusal.Refusal.{Refusal}
 use Rattle.lists.proofs.BoolLaws.{by_bool}
 use Rattle.lists.proofs.RefusalLaws.{and_same, by_check}
 use Rattle.std.proofs.lemmas.List.Elements.{All-head, All-tail}
@@ -23,10 +23,10 @@ use Rattle.plant.proofs.RulesKept.{Takes, entry-facts, run-keeps-rules}
 use Rattle.plant.proofs.RunLaws.{start-facts}
 use Rattle.detection.specs.Runs.{Call, after_run, after_runs}
 use Rattle.detection.proofs.Chain.{size-unique}
-use Rattle.dead_lines.specs.Alike.{Alike, StayAlike, SameRun, RunOfAlike, answers_of_runs, RunsOfAlike}
+use Rattle.dead_lines.specs.Alike.{Alike, StayAlike, SameRun, IsOn, RunOfAlike, answers_of_runs, RunsOfAlike}
 use Rattle.dead_lines.proofs.Writes.{Twins, Step, still, then, twins-after, line-after, closing}
 use Rattle.dead_lines.proofs.TurnAlike.{live-same, over-same, acted-step, test-same, tested-same, outcome-of-same}
-use Rattle.std.specs.Prelude.{Ok}
+use Rattle.std.specs.Prelude.{Ok, Err, Option, None, Some}
 
 -- twin tables with one tally
 pub record Both (n : ℕ) (s r : State) : Type 0 where
@@ -81,7 +81,7 @@ module _ (n : ℕ) (s r : State) (b : Both n s r) (e : Entry) where
 
 -- two runs from twin tables
 pub record SameFrom (n : ℕ) (s r : State) (a b : RunResult) : Type 0 where
-  pub number : a.number ≡ b.number
+  pub stopped : a.stopped ≡ b.stopped
   pub taken : a.taken ≡ b.taken
   pub sheet : a.sheet ≡ b.sheet
   pub rounds : a.state.rounds ≡ b.state.rounds
@@ -89,27 +89,27 @@ pub record SameFrom (n : ℕ) (s r : State) (a b : RunResult) : Type 0 where
   pub step : Step n s.table r.table a.state.table b.state.table
 
 -- a run that is stopped, by the same refusal
-stopped : (n : ℕ) (s r : State) → Both n s r → (number k : ℕ) (sheet : List ℕ)
-    → SameFrom n s r (record { number = number; taken = k; state = s; sheet = sheet })
-    (record { number = number; taken = k; state = r; sheet = sheet })
-stopped n s r b number k sheet =
-    record { number = refl; taken = refl; sheet = refl; rounds = b.rounds; tests = b.tests; step = still n s.table r.table }
+stopped : (n : ℕ) (s r : State) → Both n s r → (by : Option Refusal) (k : ℕ) (sheet : List ℕ)
+    → SameFrom n s r (record { stopped = by; taken = k; state = s; sheet = sheet })
+    (record { stopped = by; taken = k; state = r; sheet = sheet })
+stopped n s r b by k sheet =
+    record { stopped = refl; taken = refl; sheet = refl; rounds = b.rounds; tests = b.tests; step = still n s.table r.table }
 
 -- what follows a step
 further : {n : ℕ} {s r s' r' : State} {a b : RunResult} → Step n s.table r.table s'.table r'.table → SameFrom n s' r' a b → SameFrom n s r a b
 further one rest =
-    record { number = rest.number; taken = rest.taken; sheet = rest.sheet; rounds = rest.rounds; tests = rest.tests; step = then one rest.step }
+    record { stopped = rest.stopped; taken = rest.taken; sheet = rest.sheet; rounds = rest.rounds; tests = rest.tests; step = then one rest.step }
 
 run-on : (w : Wiring) (n k : ℕ) (s r : State) (sheet : List ℕ) (es : List Entry) → Both n s r
     → SameFrom n s r (go_on w n k s sheet es) (go_on w n k r sheet es)
 unfolding go_on
-run-on w n k s r sheet [] b = stopped n s r b 0 k sheet
+run-on w n k s r sheet [] b = stopped n s r b None k sheet
 run-on w n k s r sheet (e ∷ es) b =
     by_check (entry_check n s e)
     (λ z.
     let rest = run-on w n (suc k) (after w n s e) (after w n r e) (write_line sheet k (sheet_line w n s e)) es (after-both n s r b e w z) in
     rw (← check-same n s r b e, z, ← sheet-same n s r b e w z) (further (after-step n s r b e w z) rest))
-    (λ x z. rw (← check-same n s r b e, z) (stopped n s r b (number_of x) k sheet))
+    (λ x z. rw (← check-same n s r b e, z) (stopped n s r b (Some x) k sheet))
 
 -- alike tables and tallies
 module _ (w : Wiring) (n : ℕ) (s r : State) (a : Alike w n s r) where
@@ -158,7 +158,7 @@ module _ (w : Wiring) (n : ℕ) (s r : State) (a : Alike w n s r) where
       let fits = (start-facts w m s.table (length schedule) (length sheet) t).0 in
       rw (← started m (length schedule) (length sheet), t, size-is m (sym fits.long ∙ same-length))
       (run-on w n 0 s r sheet (entries schedule) alike-both))
-      (λ x t. rw (← started m (length schedule) (length sheet), t) (stopped n s r alike-both (number_of x) 0 sheet))
+      (λ x t. rw (← started m (length schedule) (length sheet), t) (stopped n s r alike-both (Some x) 0 sheet))
 
 -- a run of any size keeps the rules of size n
 still-valid : (w : Wiring) (n : ℕ) (s : State) → table_check w n s.table ≡ Ok tt → (m : ℕ) (schedule sheet : List ℕ)
@@ -188,27 +188,27 @@ stay-still w n s r a = record { alike = a; lines = λ i h line. line }
 pub stay-then : {w : Wiring} {n : ℕ} {s r s' r' s'' r'' : State} → StayAlike w n s r s' r' → StayAlike w n s' r' s'' r'' → StayAlike w n s r s'' r''
 stay-then one two = record { alike = two.alike; lines = λ i h line. two.lines i h (one.lines i h line) }
 
--- a run, an end in itself
-pub run-of-alike : RunOfAlike
-run-of-alike w n s r a m schedule sheet =
+on-wiring-alike : (w : Wiring) (n : ℕ) (s r : State) → Alike w n s r → (m : ℕ) (schedule sheet : List ℕ)
+    → SameRun w n s r (run w m s schedule sheet) (run w m r schedule sheet)
+on-wiring-alike w n s r a m schedule sheet =
     let f = run-same w n s r a m schedule sheet in
     record {
-      answer = rw (f.number, f.taken, f.rounds, f.tests, f.sheet);
+      answer = rw (f.stopped, f.taken, f.rounds, f.tests, f.sheet);
       left =
           stays w n s r _ _ (alike-both w n s r a) f.step (still-valid w n s a.valid m schedule sheet)
           (still-valid w n r a.other_valid m schedule sheet) f.rounds f.tests;
     }
 
--- a run of a list
-pub call-of-alike : (w : Wiring) (n : ℕ) (s r : State) → Alike w n s r → (c : Call) → c.wiring ≡ w
-    → SameRun w n s r (run c.wiring c.size s c.schedule c.sheet) (run c.wiring c.size r c.schedule c.sheet)
-call-of-alike w n s r a c on = rw on (run-of-alike w n s r a c.size c.schedule c.sheet)
+-- a run, an end in itself
+pub run-of-alike : RunOfAlike
+run-of-alike w n s r a (Ok v) m schedule sheet on = rw on (on-wiring-alike w n s r a m schedule sheet)
+run-of-alike w n s r a (Err x) m schedule sheet on = record { answer = rw (a.rounds, a.tests); left = stay-still w n s r a }
 
 -- a list of runs, an end in itself
 pub runs-of-alike : RunsOfAlike
 unfolding answers_of_runs after_runs
 runs-of-alike w n s r a [] on = (refl, stay-still w n s r a)
 runs-of-alike w n s r a (c ∷ cs) on =
-    let one = call-of-alike w n s r a c (All-head (λ (c : Call). c.wiring ≡ w) c cs on) in
-    let rest = runs-of-alike w n (after_run s c) (after_run r c) one.left.alike cs (All-tail (λ (c : Call). c.wiring ≡ w) c cs on) in
+    let one = run-of-alike w n s r a c.wiring c.size c.schedule c.sheet (All-head (λ (c : Call). IsOn w c.wiring) c cs on) in
+    let rest = runs-of-alike w n (after_run s c) (after_run r c) one.left.alike cs (All-tail (λ (c : Call). IsOn w c.wiring) c cs on) in
     (ap₂ ◌∷◌ one.answer rest.0, stay-then one.left rest.1)

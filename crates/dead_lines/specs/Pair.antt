@@ -1,6 +1,7 @@
 -- Two alike tables of four stations on the cube, computed; and what a run does where one of the conditions fails.
 -- Assumes nothing.
-use Rattle.std.specs.Prelude.{ℕ, ◌≡◌, List, [], ◌∷◌}
+use Rattle.std.specs.Prelude.{ℕ, ◌≡◌, List, [], ◌∷◌, None, Some}
+use Rattle.lists.specs.declared.refusal.Refusal.TheVariants.{LineRule}
 use Rattle.plant.specs.Entry.{state_of}
 use Rattle.plant.specs.Run.{run}
 use Rattle.dead_lines.specs.Alike.{Alike, Answer, of_run, run_answer}
@@ -66,9 +67,9 @@ other_after =
 pub record WorkedPair : Type 0 where
   pub alike : Alike Cube 4 (state_of worked 0 4) (state_of other 0 4)
   pub first : run Cube 4 (state_of worked 0 4) schedule blank
-      ≡ record { number = 0; taken = 7; state = state_of worked_after 1 8; sheet = sheet }
+      ≡ record { stopped = None; taken = 7; state = state_of worked_after 1 8; sheet = sheet }
   pub second : run Cube 4 (state_of other 0 4) schedule blank
-      ≡ record { number = 0; taken = 7; state = state_of other_after 1 8; sheet = sheet }
+      ≡ record { stopped = None; taken = 7; state = state_of other_after 1 8; sheet = sheet }
 
 -- what the turn of station 0 answers and writes, of two stations
 abbrev pub turn_of_0 : List ℕ → Answer
@@ -89,10 +90,10 @@ broken_line = 0 ∷ 1 ∷ 0 ∷ 0 ∷ 255 ∷ 0 ∷ 0 ∷ 0 ∷ 1 ∷ 0 ∷ 0 �
 
 -- Rule Each condition is needed: each table differs from one of the others in what one condition asks, and the answers are others
 pub record EachIsNeeded : Type 0 where
-  pub fresh : turn_of_0 both_live ≡ of_run 0 1 0 1 (0 ∷ 1 ∷ 1 ∷ 0 ∷ [])
+  pub fresh : turn_of_0 both_live ≡ of_run None 1 0 1 (0 ∷ 1 ∷ 1 ∷ 0 ∷ [])
   -- a live line: 1 is told and leaves, and 0, who suspects all others, leaves too
-  pub live_line : turn_of_0 suspecting ≡ of_run 0 1 0 1 (0 ∷ 1 ∷ 5 ∷ 3 ∷ [])
+  pub live_line : turn_of_0 suspecting ≡ of_run None 1 0 1 (0 ∷ 1 ∷ 5 ∷ 3 ∷ [])
   -- a status: no reply comes, and 0 leaves
-  pub status : turn_of_0 one_crashed ≡ of_run 0 1 0 1 (0 ∷ 1 ∷ 3 ∷ 3 ∷ [])
+  pub status : turn_of_0 one_crashed ≡ of_run None 1 0 1 (0 ∷ 1 ∷ 3 ∷ 3 ∷ [])
   -- a line rule: refusal 3, and nothing is written
-  pub valid : turn_of_0 broken_line ≡ of_run 3 0 0 0 (0 ∷ 0 ∷ 0 ∷ 0 ∷ [])
+  pub valid : turn_of_0 broken_line ≡ of_run (Some LineRule) 0 0 0 (0 ∷ 0 ∷ 0 ∷ 0 ∷ [])

@@ -14,14 +14,15 @@ use Rattle.plant.proofs.RunLaws.{start-facts}
 use Rattle.plant.specs.Entry.{Entry, State, entry_check, after, sheet_line}
 use Rattle.plant.specs.Run.{entries, write_line, go_on, start_check, run}
 use Rattle.plant.proofs.RulesKept.{accepted-kept}
-use Rattle.detection.specs.Runs.{Call, Taken, CountsTaken, after_run, after_runs, taken_from, taken_in, taken_all, is_on}
+use Rattle.detection.specs.Runs.{Call, call_of, Taken, CountsTaken, run_by, after_run, after_runs, taken_from, taken_by, taken_all, is_on}
 use Rattle.detection.specs.Rounds.{all_taken}
 use Rattle.lists.proofs.SearchLaws.{both}
 use Rattle.table.specs.declared.wiring.Wiring.{Wiring}
 use Rattle.detection.proofs.TakenLaws.{taken_at}
 use Rattle.table.proofs.WiringLaws.{same-is}
 use Rattle.table.specs.Wiring.{same_wiring}
-use Rattle.std.specs.Prelude.{Ok}
+use Rattle.lists.specs.declared.refusal.Refusal.{Refusal}
+use Rattle.std.specs.Prelude.{Result, Ok, Err}
 use Rattle.lists.proofs.RefusalLaws.{by_check}
 
 -- entries taken one behind the other at size n, each on the wiring of its run, from a state to a state
@@ -80,15 +81,17 @@ pub size-unique : (n m : ℕ) → table_length n ≡ table_length m → n ≡ m
 size-unique n m e = omega (arith, not-less n m e, not-less m n (sym e))
 
 -- the entries of one run: a run of another size, or on a table that is not accepted, is turned away, and takes none
-chain_run : (n : ℕ) (s : State) (c : Call) → length s.table ≡ table_length n → Chain n s (taken_in s c) (after_run s c)
-unfolding taken_in run start_check
-chain_run n s c long =
-    by_check (start_check c.wiring c.size s.table (length c.schedule) (length c.sheet))
+chain_run : (n : ℕ) (s : State) (v : Result Wiring Refusal) (m : ℕ) (schedule sheet : List ℕ) → length s.table ≡ table_length n
+    → Chain n s (taken_by v m s schedule sheet) (run_by v m s schedule sheet).state
+unfolding taken_by run start_check
+chain_run n s (Ok w) m schedule sheet long =
+    by_check (start_check w m s.table (length schedule) (length sheet))
     (λ t.
-    let fits = (start-facts c.wiring c.size s.table (length c.schedule) (length c.sheet) t).0 in
-    let same : c.size ≡ n = size-unique c.size n (sym fits.long ∙ long) in
-    rw (after_run, t, same) (chain-entries c.wiring n 0 s c.sheet (entries c.schedule) (rw same at fits)))
-    (λ r t. rw (after_run, t) done)
+    let fits = (start-facts w m s.table (length schedule) (length sheet) t).0 in
+    let same : m ≡ n = size-unique m n (sym fits.long ∙ long) in
+    rw (t, same) (chain-entries w n 0 s sheet (entries schedule) (rw same at fits)))
+    (λ r t. rw t done)
+chain_run n s (Err r) m schedule sheet long = done
 
 -- the entries of all runs
 pub chain-all : (n : ℕ) (s : State) (calls : List Call) → length s.table ≡ table_length n
@@ -96,7 +99,7 @@ pub chain-all : (n : ℕ) (s : State) (calls : List Call) → length s.table ≡
 unfolding taken_all after_runs
 chain-all n s [] long = done
 chain-all n s (c ∷ calls) long =
-    let first = chain_run n s c long in
+    let first = chain_run n s c.wiring c.size c.schedule c.sheet long in
     chain-append first (chain-all n (after_run s c) calls (chain-long first long))
 
 taken-from : (w : Wiring) (n k : ℕ) (s : State) (sheet : List ℕ) (es : List Entry) → (go_on w n k s sheet es).taken ≡ k + length (taken_from w n s es)
@@ -107,8 +110,10 @@ taken-from w n k s sheet (e ∷ es) =
     (λ t. rw t (omega (arith, taken-from w n (suc k) (after w n s e) (write_line sheet k (sheet_line w n s e)) es))) (λ r t. rw t (omega arith))
 
 -- a run answers how many entries it takes
-pub taken_is : (s : State) (c : Call) → CountsTaken c s (run c.wiring c.size s c.schedule c.sheet).taken
-unfolding taken_in run
-taken_is s c =
-    by_check (start_check c.wiring c.size s.table (length c.schedule) (length c.sheet))
-    (λ t. rw t (omega (arith, taken-from c.wiring c.size 0 s c.sheet (entries c.schedule)))) (λ r t. rw t)
+pub taken_is : (s : State) (v : Result Wiring Refusal) (n : ℕ) (schedule sheet : List ℕ)
+    → CountsTaken (call_of v n schedule sheet) s (run_by v n s schedule sheet).taken
+unfolding taken_by run
+taken_is s (Ok w) n schedule sheet =
+    by_check (start_check w n s.table (length schedule) (length sheet))
+    (λ t. rw t (omega (arith, taken-from w n 0 s sheet (entries schedule)))) (λ r t. rw t)
+taken_is s (Err r) n schedule sheet = refl

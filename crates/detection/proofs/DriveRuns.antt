@@ -22,7 +22,8 @@ use Rattle.granter.proofs.GrantLaws.{Grantable, grantable, grant-zero, station-f
 use Rattle.granter.proofs.DriveLaws.{Driving, not_stopped, driving-start, still, chosen, next-taken, next-driving}
 use Rattle.detection.specs.Driven.{runs_of, DriveIsTurns}
 use Rattle.granter.proofs.Stops.{drive-stops}
-use Rattle.std.specs.Prelude.{Ok, Err}
+use Rattle.std.specs.Prelude.{Ok, Err, None, Some}
+use Rattle.std.proofs.lemmas.Option.{none-some}
 use Rattle.lists.proofs.RefusalLaws.{by_check, refused_met}
 use Rattle.lists.specs.declared.refusal.Refusal.TheVariants.{TallyFull}
 
@@ -88,11 +89,11 @@ grants-taken w n s last g k going =
     grant-zero w n _ _ (accepted-number w n _ d.ok) (last_fits w n s last g k (λ j l. going j (omega arith))) (still w n (stand_at s last) k d).1
 
 -- where a drive stops and has not ended, a tally is full
-full-number : (w : Wiring) (n : ℕ) (p : Stand) (k i : ℕ) → stops w n p k ≡ true → ◌≡◌ {A = ℕ} (cond (ended_after w n p k) 0 7) 7
+full-number : (w : Wiring) (n : ℕ) (p : Stand) (k i : ℕ) → stops w n p k ≡ true → cond (ended_after w n p k) None (Some TallyFull) ≡ Some TallyFull
     → entry_check n (after_grants w n p k).state (entry_of kind_turn i) ≡ Err TallyFull
 unfolding stops entry_check
 full-number w n p k i stop seven =
-    by_bool (ended_after w n p k) (λ e. absurd (omega (arith, rw e at seven)))
+    by_bool (ended_after w n p k) (λ e. absurd (none-some TallyFull (rw e at seven)))
     (λ e. let full : full_after w n p k ≡ true = rw e at stop in rw full)
 
 -- a drive is the granting rule followed turn by turn, an end in itself

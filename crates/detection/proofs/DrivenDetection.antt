@@ -6,8 +6,7 @@ use mathlib.Core.Bool.{Bool, true, false, cond, not, true≢false}
 use mathlib.Core.List.{List, [], ◌∷◌, ◌++◌, map}
 use Prim.Native.Nat.{ℕ, zero, suc, ◌+◌, ◌<◌}
 use native.Mathlib.Omega.{arith}
-use borrow.Author.Tests.{eqb-true, eqb-false, eq-eqb, not-true}
-use lib.Dec.{eqb}
+use borrow.Author.Tests.{eq-eqb, not-true}
 use lib.ListN.{length}
 use Rattle.lists.specs.Search.{every}
 use Rattle.lists.specs.Sums.{bit}
@@ -37,13 +36,18 @@ use Rattle.detection.specs.InList.{DrivenDetectionInList}
 use Rattle.granter.proofs.Stops.{drive-stops}
 use Rattle.detection.proofs.DriveRuns.{driving-at, drive-is-turns}
 use Rattle.table.proofs.WiringLaws.{same-itself}
-use Rattle.lists.proofs.RefusalLaws.{by_check, number_nonzero}
+use Rattle.lists.proofs.RefusalLaws.{by_check}
+use Rattle.lists.specs.declared.refusal.Refusal.{Refusal}
+use Rattle.lists.specs.declared.refusal.Refusal.TheVariants.{TallyFull}
+use Rattle.std.proofs.lemmas.Option.{none-some}
+use Rattle.std.specs.Prelude.{Option, None, Some, is_none, Ok, Err}
 
 -- the runs of a run or a drive leave what it leaves
 one-mixed-left : (s : State) (x : RunOrDrive) → after_runs s (runs_of_one s x) ≡ after_one s x
 unfolding after_runs
 one-mixed-left s (a_run c) = refl
-one-mixed-left s (a_drive w n last) = (drive-is-turns w n s last).left
+one-mixed-left s (a_drive (Ok w) n last) = (drive-is-turns w n s last).left
+one-mixed-left s (a_drive (Err r) n last) = refl
 
 -- and so do those of a list
 pub mixed-left : (s : State) (xs : List RunOrDrive) → after_runs s (runs_of_mixed s xs) ≡ after_mixed s xs
@@ -112,7 +116,7 @@ closes_at w n s last g (suc k) going o lives =
     open-then : (after w n q e).rounds ≡ s.rounds → ended n s.rounds (after w n q e) ≡ false
     open-then same = rw (eq-eqb _ _ same, lives)
 
-drive-closes : (w : Wiring) (n : ℕ) (s : State) (last : ℕ) → (drive w n s last).number ≡ 0 → some_live n (drive w n s last).state.table ≡ true
+drive-closes : (w : Wiring) (n : ℕ) (s : State) (last : ℕ) → (drive w n s last).stopped ≡ None → some_live n (drive w n s last).state.table ≡ true
     → (drive w n s last).state.rounds ≡ s.rounds + 1
 unfolding drive outcome_after
 drive-closes w n s last z lives =
@@ -121,20 +125,21 @@ drive-closes w n s last z lives =
     let stop = drive-stops w n s last e in
     let over = ended_of (ended_after w n (stand_at s last) (grants_made w n (stand_at s last))) refl (rw e at z) in
     rw e (closes_at w n s last (grantable w n s.table last e) (grants_made w n (stand_at s last)) stop.first over (rw e at lives)))
-    (λ r e. absurd (number_nonzero r (rw e at z)))
+    (λ r e. absurd (none-some r (sym (rw e at z))))
   where
-    ended_of : (b : Bool) → ended_after w n (stand_at s last) (grants_made w n (stand_at s last)) ≡ b → ◌≡◌ {A = ℕ} (cond b 0 7) 0
+    ended_of : (b : Bool) → ended_after w n (stand_at s last) (grants_made w n (stand_at s last)) ≡ b → cond b None (Some TallyFull) ≡ None
         → ended_after w n (stand_at s last) (grants_made w n (stand_at s last)) ≡ true
     ended_of true e z = e
-    ended_of false e z = absurd (omega arith)
+    ended_of false e z = absurd (none-some TallyFull (sym z))
 
 -- any other drive closes none
-drive-stays : (w : Wiring) (n : ℕ) (s : State) (last : ℕ) → ((drive w n s last).number ≡ 0 → ⊥) → (drive w n s last).state.rounds ≡ s.rounds
+drive-stays : (w : Wiring) (n : ℕ) (s : State) (last : ℕ) (r : Refusal) → (drive w n s last).stopped ≡ Some r
+    → (drive w n s last).state.rounds ≡ s.rounds
 unfolding drive outcome_after
-drive-stays w n s last z =
+drive-stays w n s last r z =
     by_check (grant_check w n s.table last)
     (λ e.
-    by_bool (ended_after w n p made) (λ o. absurd (z (rw (e, o))))
+    by_bool (ended_after w n p made) (λ o. absurd (none-some r (rw (e, o) at z)))
     (λ o. rw e (not-ended n s.rounds (after_grants w n p made).state o).0))
     (λ r e. rw e)
   where
@@ -146,10 +151,13 @@ drive-stays w n s last z =
 
 -- the rounds that a drive adds, where somebody is live after it
 drive-adds : (w : Wiring) (n : ℕ) (s : State) (last : ℕ) → some_live n (drive w n s last).state.table ≡ true
-    → (drive w n s last).state.rounds ≡ s.rounds + bit (eqb (drive w n s last).number 0)
-drive-adds w n s last lives =
-    by_bool (eqb (drive w n s last).number 0) (λ e. rw e (drive-closes w n s last (eqb-true _ 0 e) lives))
-    (λ e. rw e (omega (arith, drive-stays w n s last (eqb-false _ 0 e))))
+    → (drive w n s last).state.rounds ≡ s.rounds + bit (is_none (drive w n s last).stopped)
+drive-adds w n s last lives = pick (drive w n s last).stopped refl
+  where
+    pick : (o : Option Refusal) → (drive w n s last).stopped ≡ o
+        → (drive w n s last).state.rounds ≡ s.rounds + bit (is_none (drive w n s last).stopped)
+    pick None e = rw e (drive-closes w n s last e lives)
+    pick (Some r) e = rw e (omega (arith, drive-stays w n s last r e))
 
 -- within so many rounds
 module _ (rounds : Wiring → ℕ → ℕ) (claim : Detection rounds) (w : Wiring) (n : ℕ) (s : State) (given : DetectionPremises w n s []) where
@@ -166,7 +174,7 @@ module _ (rounds : Wiring → ℕ → ℕ) (claim : Detection rounds) (w : Wirin
   }
 
   concluded : (lasts : List ℕ) → DetectionConclusion (rounds w n) w n s (runs_of_drives w n s lasts) (after_drives w n s lasts)
-  concluded lasts = mixed-detection rounds claim w n s (map (a_drive w n) lasts) (premises lasts)
+  concluded lasts = mixed-detection rounds claim w n s (map (a_drive (Ok w) n) lasts) (premises lasts)
 
   -- somebody is live after every drive
   lives-after : (lasts : List ℕ) → some_live n (after_drives w n s lasts).table ≡ true
@@ -179,7 +187,7 @@ module _ (rounds : Wiring → ℕ → ℕ) (claim : Detection rounds) (w : Wirin
       absurd (omega (arith, given.two_live, sum-zero {f = λ i. bit (live n s.table i)} n (λ i h. ap bit (dead i h)))))
       (λ e. rw e)
 
-  -- the rounds of the tally are those of the drives that answer 0
+  -- the rounds of the tally are those of the drives that no refusal stops
   grows : (done rest : List ℕ)
       → (after_drives w n (after_drives w n s done) rest).rounds ≡ (after_drives w n s done).rounds + ending w n (after_drives w n s done) rest
   unfolding after_mixed ending

@@ -12,7 +12,7 @@ use Rattle.plant.specs.Run.{RunResult, entries, start_check}
 use Rattle.lists.proofs.RefusalLaws.{by_check}
 use Rattle.table.specs.declared.wiring.Wiring.{Wiring}
 use Rattle.plant.proofs.RunLaws.{start-one, go-one, run-goes}
-use Rattle.detection.specs.Runs.{Call, Taken, turn_run, after_run, after_runs, taken_from, taken_in, taken_all}
+use Rattle.detection.specs.Runs.{Call, Taken, turn_run, after_run, after_runs, taken_from, taken_by, taken_in, taken_all}
 use Rattle.detection.specs.Rounds.{all_taken}
 use Rattle.detection.proofs.TakenLaws.{taken_at}
 use Rattle.std.specs.Prelude.{Ok}
@@ -38,7 +38,7 @@ module _ (w : Wiring) (n : ℕ) (s : State) (i : ℕ) (ok : table_check w n s.ta
       ∙ go-one w n s (turn_run w n i).sheet kind_turn i z
 
   pub one-taken : taken_in s (turn_run w n i) ≡ taken_at w n s (entry_of kind_turn i) ∷ []
-  unfolding taken_in start_check taken_from entries
+  unfolding taken_by start_check taken_from entries
   one-taken = rw (ok, z)
 
 -- two lists whose entries pass
@@ -55,7 +55,7 @@ runs_append q s a b x y = rw (taken-append s a b) (all_append q (taken_all s a) 
 -- what turns pass, a run of one turn passes
 module _ (w : Wiring) (q : Taken → Bool) (turns : (n : ℕ) (s : State) (i : ℕ) → q (taken_at w n s (entry_of kind_turn i)) ≡ true) where
   pub one_passes : (n : ℕ) (s : State) (i : ℕ) → all_taken q (taken_all s (turn_run w n i ∷ [])) ≡ true
-  unfolding taken_all taken_in taken_from entries all_taken
+  unfolding taken_all taken_by taken_from entries all_taken
   one_passes n s i =
       let passes : all_taken q (taken_at w n s (entry_of kind_turn i) ∷ []) ≡ true = rw (turns n s i) in
       all_append q (taken_in s (turn_run w n i)) [] (by_check (start_check w n s.table 2 4)

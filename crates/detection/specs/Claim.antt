@@ -159,7 +159,7 @@ worst_rounds w n = if is_ring w then ring_latency n else worst_latency (dimensio
 abbrev pub FreshIsAccepted : Type 0
 FreshIsAccepted = (w : Wiring) (n : ℕ) → is_size n ≡ true → table_check w n (fresh_table n) ≡ Ok tt
 
--- Rule Conditions are met: a fresh table, with any tally, meets on each wiring and at every size what is supposed of wiring, size and table.
+-- Rule Conditions are met: a fresh table, with any tally, meets on each wiring and at every size what is supposed of size and table.
 -- Drives need no more (`DrivenDetection`)
 abbrev pub FreshMeetsPremises : Type 0
 FreshMeetsPremises =

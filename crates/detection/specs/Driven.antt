@@ -1,6 +1,6 @@
 -- That a drive does what its grants and their runs of one entry do, so that detection holds of plants that are driven.
 -- Assumes nothing.
-use Rattle.std.specs.Prelude.{Ok, ◌≡◌, List, [], ◌∷◌, ◌++◌, map, ℕ, zero, suc, ◌+◌, ◌≤◌, ◌<◌, length, ◌==◌, Err}
+use Rattle.std.specs.Prelude.{Ok, ◌≡◌, List, [], ◌∷◌, ◌++◌, map, ℕ, zero, suc, ◌+◌, ◌≤◌, ◌<◌, length, Some, is_none, Result, Err}
 use Rattle.lists.specs.Sums.{bit}
 use Rattle.table.specs.declared.wiring.Wiring.{Wiring}
 use Rattle.plant.specs.Turn.{kind_turn}
@@ -8,7 +8,8 @@ use Rattle.plant.specs.Entry.{State, entry_of, entry_check}
 use Rattle.detection.specs.Runs.{Call, turn_run, after_run, after_runs, taken_all}
 use Rattle.detection.specs.Claim.{rounds_of, AllKnow, DetectionPremises, DetectionConclusion, square_rounds}
 use Rattle.granter.specs.Grant.{grant_check}
-use Rattle.granter.specs.Drive.{Stand, stand_at, granted_at, after_grants, drive}
+use Rattle.granter.specs.Drive.{DriveResult, drive_outcome, Stand, stand_at, granted_at, after_grants, drive}
+use Rattle.lists.specs.declared.refusal.Refusal.{Refusal}
 use Rattle.lists.specs.declared.refusal.Refusal.TheVariants.{TallyFull}
 
 -- the runs (1, g1), (1, g2), .. of the first k grants
@@ -31,7 +32,7 @@ pub record TurnByTurn (w : Wiring) (n : ℕ) (s : State) (last : ℕ) : Type 0 w
   pub left : after_runs s (runs_of_drive w n s last) ≡ (drive w n s last).state
   pub last_is : (drive w n s last).last ≡ (after_grants w n (stand_at s last) (drive w n s last).grants).last
   -- where the drive stops with 7, the next turn would meet it
-  pub seven : grant_check w n s.table last ≡ Ok tt → (drive w n s last).number ≡ 7
+  pub seven : grant_check w n s.table last ≡ Ok tt → (drive w n s last).stopped ≡ Some TallyFull
       → let end = drive w n s last in
       entry_check n end.state (entry_of kind_turn (granted_at n (stand_at end.state end.last))) ≡ Err TallyFull
 
@@ -39,19 +40,25 @@ pub record TurnByTurn (w : Wiring) (n : ℕ) (s : State) (last : ℕ) : Type 0 w
 abbrev pub DriveIsTurns : Type 0
 DriveIsTurns = (w : Wiring) (n : ℕ) (s : State) (last : ℕ) → TurnByTurn w n s last
 
--- a list that mixes runs and drives; a drive has any wiring, any size and any last number
+-- Rule Wiring number: a drive whose wiring may be refused by 24. That comes first, and changes nothing
+abbrev pub drive_by : Result Wiring Refusal → ℕ → State → ℕ → DriveResult
+drive_by (Ok w) n s last = drive w n s last
+drive_by (Err r) n s last = drive_outcome (Some r) s last 0
+
+-- a list that mixes runs and drives; a drive has any wiring or one that 24 refuses, any size and any last number
 pub data RunOrDrive : Type 0 where
   a_run : Call → RunOrDrive
-  a_drive : Wiring → ℕ → ℕ → RunOrDrive
+  a_drive : Result Wiring Refusal → ℕ → ℕ → RunOrDrive
 
 -- table and tally after one of them, and the runs that it is
 abbrev pub after_one : State → RunOrDrive → State
 after_one s (a_run c) = after_run s c
-after_one s (a_drive w n last) = (drive w n s last).state
+after_one s (a_drive v n last) = (drive_by v n s last).state
 
 abbrev pub runs_of_one : State → RunOrDrive → List Call
 runs_of_one s (a_run c) = c ∷ []
-runs_of_one s (a_drive w n last) = runs_of_drive w n s last
+runs_of_one s (a_drive (Ok w) n last) = runs_of_drive w n s last
+runs_of_one s (a_drive (Err r) n last) = []
 
 -- and of the list, each with the table and tally that the one before left
 unfoldable pub after_mixed : State → List RunOrDrive → State
@@ -69,24 +76,24 @@ MixedDetection rounds =
     → DetectionConclusion (rounds w n) w n s (runs_of_mixed s xs) (after_mixed s xs)
 
 -- drives of one size, each with any last number (a drive of another size is refused): table and tally after them, the runs that they are, and
--- how many of them answer 0
+-- how many of them no refusal stops
 abbrev pub after_drives : Wiring → ℕ → State → List ℕ → State
-after_drives w n s lasts = after_mixed s (map (a_drive w n) lasts)
+after_drives w n s lasts = after_mixed s (map (a_drive (Ok w) n) lasts)
 
 abbrev pub runs_of_drives : Wiring → ℕ → State → List ℕ → List Call
-runs_of_drives w n s lasts = runs_of_mixed s (map (a_drive w n) lasts)
+runs_of_drives w n s lasts = runs_of_mixed s (map (a_drive (Ok w) n) lasts)
 
 unfoldable pub ending : Wiring → ℕ → State → List ℕ → ℕ
 ending w n s [] = 0
-ending w n s (last ∷ lasts) = bit ((drive w n s last).number == 0) + ending w n (drive w n s last).state lasts
+ending w n s (last ∷ lasts) = bit (is_none (drive w n s last).stopped) + ending w n (drive w n s last).state lasts
 
 -- what the claim says of driven plants, where so many rounds are enough
 pub record DrivenDetectionConclusion (enough : ℕ) (w : Wiring) (n : ℕ) (s : State) (lasts : List ℕ) (end : State) : Type 0 where
   -- detection, of the list of their runs
   pub detection : DetectionConclusion enough w n s (runs_of_drives w n s lasts) end
-  -- each drive that answers 0 closes one round, and no other closes one
+  -- each drive that no refusal stops closes one round, and no other closes one
   pub rounds : length (rounds_of s (runs_of_drives w n s lasts)).closed ≡ ending w n s lasts
-  -- after enough that answer 0 each live board suspects exactly the boards that are not live
+  -- after enough such drives each live board suspects exactly the boards that are not live
   pub exact_rows : enough ≤ ending w n s lasts → AllKnow n s.table end.table
 
 -- Rule Detection by drives: the claim, within so many rounds by wiring and size. It supposes the detection conditions on the table: those of no

@@ -1,32 +1,38 @@
 -- The list of runs and its taken entries.
 -- Assumes nothing.
-use Rattle.std.specs.Prelude.{◌≡◌, ℕ, Bool, not, ◌&&◌, List, [], ◌∷◌, ◌++◌, length, ◌==◌}
+use Rattle.std.specs.Prelude.{◌≡◌, ℕ, Bool, not, ◌&&◌, List, [], ◌∷◌, ◌++◌, length, ◌==◌, Some, Result, Ok, Err}
 use Rattle.table.specs.Table.{live}
 use Rattle.table.specs.Wiring.{same_wiring}
 use Rattle.table.specs.declared.wiring.Wiring.{Wiring}
 use Rattle.plant.specs.Turn.{kind_turn, kind_late}
 use Rattle.plant.specs.Entry.{Entry, State, is_crash, is_test, entry_check, after, tested_of}
-use Rattle.plant.specs.Run.{entries, start_check, run}
+use Rattle.plant.specs.Run.{RunResult, entries, start_check, run}
+use Rattle.lists.specs.declared.refusal.Refusal.{Refusal}
 use Rattle.lists.specs.Refusal.{unless_refused}
 
--- what one run of the list is given anew: its wiring, size, schedule and run sheet, which may be any
+-- what one run of the list is given anew: its wiring, or refusal 24 where its number is none's, its size, schedule and run sheet, which may be any
 pub record Call : Type 0 where
-  pub wiring : Wiring
+  pub wiring : Result Wiring Refusal
   pub size : ℕ
   pub schedule : List ℕ
   pub sheet : List ℕ
 
 -- a run's own inputs by their parts
-abbrev pub call_of : Wiring → ℕ → List ℕ → List ℕ → Call
-call_of w n schedule sheet = record { wiring = w; size = n; schedule = schedule; sheet = sheet }
+abbrev pub call_of : Result Wiring Refusal → ℕ → List ℕ → List ℕ → Call
+call_of v n schedule sheet = record { wiring = v; size = n; schedule = schedule; sheet = sheet }
 
 -- a run of one entry, (1, i): a turn of station i. What its sheet of four bytes held does not matter
 abbrev pub turn_run : Wiring → ℕ → ℕ → Call
-turn_run w n i = call_of w n (kind_turn ∷ i ∷ []) (0 ∷ 0 ∷ 0 ∷ 0 ∷ [])
+turn_run w n i = call_of (Ok w) n (kind_turn ∷ i ∷ []) (0 ∷ 0 ∷ 0 ∷ 0 ∷ [])
+
+-- Rule Wiring number: a run whose wiring may be refused by 24. That comes first, and changes nothing
+abbrev pub run_by : Result Wiring Refusal → ℕ → State → List ℕ → List ℕ → RunResult
+run_by (Ok w) n s schedule sheet = run w n s schedule sheet
+run_by (Err r) n s schedule sheet = record { stopped = Some r; taken = 0; state = s; sheet = sheet }
 
 -- table and tally as a run leaves them
 abbrev pub after_run : State → Call → State
-after_run s c = (run c.wiring c.size s c.schedule c.sheet).state
+after_run s c = (run_by c.wiring c.size s c.schedule c.sheet).state
 
 -- table and tally after the list: each run finds them as the one before left them
 unfoldable pub after_runs : State → List Call → State
@@ -46,10 +52,14 @@ taken_from w n s [] = []
 taken_from w n s (e ∷ es) =
     unless_refused (entry_check n s e) [] (record { wiring = w; size = n; before = s; entry = e } ∷ taken_from w n (after w n s e) es)
 
--- the taken entries of one run
-unfoldable pub taken_in : State → Call → List Taken
-taken_in s c =
-    unless_refused (start_check c.wiring c.size s.table (length c.schedule) (length c.sheet)) [] (taken_from c.wiring c.size s (entries c.schedule))
+-- the taken entries of one run: none where 24 or one of 1 to 6 refuses it
+unfoldable pub taken_by : Result Wiring Refusal → ℕ → State → List ℕ → List ℕ → List Taken
+taken_by (Ok w) n s schedule sheet =
+    unless_refused (start_check w n s.table (length schedule) (length sheet)) [] (taken_from w n s (entries schedule))
+taken_by (Err r) n s schedule sheet = []
+
+abbrev pub taken_in : State → Call → List Taken
+taken_in s c = taken_by c.wiring c.size s c.schedule c.sheet
 
 -- a run that finds this table and tally answers how many entries it takes
 abbrev pub CountsTaken : Call → State → ℕ → Type 0

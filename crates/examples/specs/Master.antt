@@ -7,6 +7,7 @@ use Rattle.table.specs.declared.wiring.Wiring.TheVariants.{Cube}
 use Rattle.plant.specs.Turn.{finish_pass}
 use Rattle.plant.specs.Entry.{state_of}
 use Rattle.granter.specs.Grant.{waits, first_from, following, granted, grant_check, grant_answer, grant_station}
+use Rattle.plant.specs.Run.{stop_refusal}
 use Rattle.granter.specs.Drive.{DriveResult, grant_turn, after_grants, ended, stops, grants_made, outcome_after, drive}
 use Rattle.examples.specs.Example.{Example, expect, AllHold}
 use Rattle.plant.proofs.WholeRun.{whole_run}
@@ -30,7 +31,7 @@ all_dead = set_cell 4 (set_cell 4 (set_cell 4 (set_cell 4 (fresh_table 4) 0 stat
 
 -- what a drive answers
 abbrev pub drive_figures : DriveResult → List ℕ
-drive_figures d = d.number ∷ d.state.rounds ∷ d.state.tests ∷ d.last ∷ d.grants ∷ []
+drive_figures d = stop_refusal d.stopped ∷ d.state.rounds ∷ d.state.tests ∷ d.last ∷ d.grants ∷ []
 
 -- two boards, fresh, and two that suspect one another
 unfoldable pub two_fresh : DriveResult

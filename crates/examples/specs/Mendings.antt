@@ -63,5 +63,5 @@ mendings =
     ∷ []
 
 pub mendings-hold : AllHold mendings
-unfolding whole_run mendings mend mend_check report_after report_of changes mended mended_byte table_of line_byte
+unfolding whole_run mendings mend report_after report_of changes mended mended_byte table_of line_byte
 mendings-hold = refl

@@ -10,7 +10,7 @@ use Rattle.table.specs.Fresh.{fresh_table}
 use Rattle.station.specs.Calls.{other_distances, assignment_entries}
 use Rattle.plant.specs.Turn.{finish_pass}
 use Rattle.plant.specs.Entry.{state_of}
-use Rattle.plant.specs.Run.{RunResult, run}
+use Rattle.plant.specs.Run.{RunResult, stop_refusal, run}
 use Rattle.lists.specs.Sums.{sum_below}
 use Rattle.table.specs.declared.wiring.Wiring.TheVariants.{Cube}
 use Rattle.detection.specs.Claim.{group_without_live, pairs_without_live, tests_per_round}
@@ -105,7 +105,7 @@ base_rules =
     ∷ expect (count_of 8 four_dead) (23 ∷ [])
     ∷ expect (count_of 8 four_and_five_dead) (20 ∷ [])
     -- 0 suspects 1, exchanges with 2, then with 3; 1 tests 0, is told and leaves. The row of 1 stays empty
-    ∷ expect (four_boards.number ∷ four_boards.taken ∷ []) (0 ∷ 4 ∷ [])
+    ∷ expect (stop_refusal four_boards.stopped ∷ four_boards.taken ∷ []) (0 ∷ 4 ∷ [])
     ∷ expect four_boards.sheet (0 ∷ 1 ∷ 3 ∷ 0 ∷ 0 ∷ 2 ∷ 1 ∷ 0 ∷ 0 ∷ 3 ∷ 1 ∷ 0 ∷ 1 ∷ 0 ∷ 2 ∷ 2 ∷ [])
     ∷ expect (row 4 four_boards.state.table 0) (0 ∷ 1 ∷ 0 ∷ 0 ∷ [])
     ∷ expect (row 4 four_boards.state.table 1) (0 ∷ 0 ∷ 0 ∷ 0 ∷ [])

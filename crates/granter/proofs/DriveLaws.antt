@@ -22,9 +22,9 @@ use Rattle.plant.proofs.RulesKept.{accepted-kept}
 use Rattle.plant.proofs.RunLaws.{accepted-number}
 use Rattle.plant.proofs.StepLines.{Lines}
 use Rattle.granter.specs.Grant.{waits, granted, grant_check}
-use Rattle.std.specs.Prelude.{Ok, Err}
+use Rattle.std.specs.Prelude.{Ok, Err, None, Some}
 use Rattle.lists.specs.declared.refusal.Refusal.{Refusal}
-use Rattle.lists.specs.Refusal.{number_of}
+use Rattle.lists.specs.declared.refusal.Refusal.TheVariants.{TallyFull}
 use Rattle.table.specs.declared.wiring.Wiring.{Wiring}
 use Rattle.granter.specs.Drive.{Stand, stand_at, granted_at, grant_turn, after_grants, ended, ended_after, full_after, stops, grants_made}
 use Rattle.granter.specs.Drive.{drive_outcome, outcome_after, drive, Stopped}
@@ -141,7 +141,7 @@ stopped-ended w n p k d fits o = record { within = next-within w n p k d; stoppe
 
 -- a drive that is refused
 pub drive-refused : (w : Wiring) (n : ℕ) (s : State) (last : ℕ) (r : Refusal) → grant_check w n s.table last ≡ Err r
-    → drive w n s last ≡ drive_outcome (number_of r) s last 0
+    → drive w n s last ≡ drive_outcome (Some r) s last 0
 unfolding drive
 drive-refused w n s last r e = rw e
 
@@ -170,7 +170,8 @@ turned-is w n q s i e f = rw (f, e)
 -- a drive as the code finds it: q is where it stands after k grants
 module _ (w : Wiring) (n : ℕ) (p : Stand) (k : ℕ) (q : Stand) (at-k : q ≡ after_grants w n p k) (d : Driving w n p k) where
   -- a tally is full: it stops here
-  pub full-stop : tally_full q.state.rounds q.state.tests ≡ true → (drive_outcome 7 q.state q.last k ≡ outcome_after w n p k) × Stopped w n p k
+  pub full-stop : tally_full q.state.rounds q.state.tests ≡ true
+      → (drive_outcome (Some TallyFull) q.state q.last k ≡ outcome_after w n p k) × Stopped w n p k
   unfolding outcome_after
   full-stop full = (rw (at-k, d.open-still), stopped-full w n p k d (rw at-k at full))
 
@@ -193,7 +194,7 @@ module _ (w : Wiring) (n : ℕ) (p : Stand) (k : ℕ) (q : Stand) (at-k : q ≡ 
       turned_on = rw (add-one k) (turned ∙ ap (grant_turn w n) at-k)
 
       pub end-stop : ended n p.state.rounds q'.state ≡ true
-          → (drive_outcome 0 q'.state q'.last (k + 1) ≡ outcome_after w n p (k + 1)) × Stopped w n p (k + 1)
+          → (drive_outcome None q'.state q'.last (k + 1) ≡ outcome_after w n p (k + 1)) × Stopped w n p (k + 1)
       unfolding outcome_after
       end-stop o =
           let here : ended_after w n p (k + 1) ≡ true = rw turned_on at o in

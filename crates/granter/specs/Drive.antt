@@ -1,13 +1,15 @@
 -- The drive, which repeats a grant and its turn, for all inputs. w is the wiring.
 -- Assumes nothing.
-use Rattle.std.specs.Prelude.{Ok, ◌≡◌, ℕ, zero, suc, ◌*◌, ◌≤◌, ◌<◌, Bool, true, false, not, ◌||◌, List, if◌then◌else◌, ◌==◌}
+use Rattle.std.specs.Prelude.{Ok, ◌≡◌, ℕ, zero, suc, ◌*◌, ◌≤◌, ◌<◌, Bool, true, false, not, ◌||◌, List, Option, Some, None, if◌then◌else◌, ◌==◌}
 use Rattle.lists.specs.Search.{least}
 use Rattle.table.specs.Rules.{some_live}
-use Rattle.lists.specs.Refusal.{number_of_result, unless_refused}
+use Rattle.std.specs.Result.{result_err}
+use Rattle.lists.specs.declared.refusal.Refusal.{Refusal}
+use Rattle.lists.specs.declared.refusal.Refusal.TheVariants.{TallyFull}
+use Rattle.lists.specs.Refusal.{unless_refused}
 use Rattle.table.specs.declared.wiring.Wiring.{Wiring}
 use Rattle.plant.specs.Turn.{kind_turn}
 use Rattle.plant.specs.Entry.{State, state_with, entry_of, tally_full, after}
-use Rattle.plant.specs.Run.{stop_refusal}
 use Rattle.granter.specs.declared.Driven.{Driven}
 use Rattle.granter.specs.Grant.{granted, grant_check}
 
@@ -53,30 +55,31 @@ stops w n p k = ended_after w n p k || full_after w n p k
 unfoldable pub grants_made : Wiring → ℕ → Stand → ℕ
 grants_made w n p = least (stops w n p) (n * n) 0
 
--- what a drive answers and leaves: the number, table and tally, the last granted number and the grants made
+-- what a drive answers and leaves: the refusal that stopped it, if one did, table and tally, the last granted number and the grants made
 pub record DriveResult : Type 0 where
-  pub number : ℕ
+  pub stopped : Option Refusal
   pub state : State
   pub last : ℕ
   pub grants : ℕ
 
 -- an outcome by its parts
-abbrev pub drive_outcome : ℕ → State → ℕ → ℕ → DriveResult
-drive_outcome number s last grants = record { number = number; state = s; last = last; grants = grants }
+abbrev pub drive_outcome : Option Refusal → State → ℕ → ℕ → DriveResult
+drive_outcome stopped s last grants = record { stopped = stopped; state = s; last = last; grants = grants }
 
 -- the outcome of a call: what it answers, and the table as it left it
 abbrev pub drive_outcome_with : Driven → List ℕ → DriveResult
-drive_outcome_with d t = drive_outcome (stop_refusal d.stopped) (state_with t d.tally) d.last d.grants
+drive_outcome_with d t = drive_outcome d.stopped (state_with t d.tally) d.last d.grants
 
--- the outcome after k grants: 0 if the drive has ended, otherwise 7. The turns that were made stay
+-- the outcome after k grants: refusal 7 unless the drive has ended. The turns that were made stay
 unfoldable pub outcome_after : Wiring → ℕ → Stand → ℕ → DriveResult
-outcome_after w n p k = drive_outcome (if ended_after w n p k then 0 else 7) (after_grants w n p k).state (after_grants w n p k).last k
+outcome_after w n p k =
+    drive_outcome (if ended_after w n p k then None else Some TallyFull) (after_grants w n p k).state (after_grants w n p k).last k
 
 -- Rule Drive call: the drive, for all inputs. Refused by 1 to 4, 16 or 17 it gives back the tally and last number handed in, and 0 grants
 unfoldable pub drive : Wiring → ℕ → State → ℕ → DriveResult
 drive w n s last =
     let check = grant_check w n s.table last in
-    unless_refused check (drive_outcome (number_of_result check) s last 0)
+    unless_refused check (drive_outcome (result_err check) s last 0)
     (outcome_after w n (stand_at s last) (grants_made w n (stand_at s last)))
 
 -- a drive that is not refused at its start makes n·n grants at the most, stopped for one of the three reasons, and none of them held

@@ -19,7 +19,7 @@ use Rattle.table.proofs.Accepting.{accepted}
 use Rattle.table.proofs.LineLaws.{line_at}
 use Rattle.table.specs.declared.wiring.Wiring.{Wiring}
 use Rattle.plant.specs.Entry.{Entry, State, after, tested_of}
-use Rattle.detection.specs.Runs.{Call, Taken, after_runs, taken_from, taken_in, taken_all, is_late, taken_test}
+use Rattle.detection.specs.Runs.{Call, Taken, after_runs, taken_from, taken_by, taken_all, is_late, taken_test}
 use Rattle.detection.specs.Rounds.{any_taken}
 use Rattle.detection.proofs.TakenLaws.{taken_at}
 use Rattle.detection.proofs.DetectionClaim.{detection-in-worst-case}
@@ -81,7 +81,7 @@ module _ (w : Wiring) (n : ℕ) where
     end-same = (is-run w n s es sheet z t long).state
 
     taken-same : taken_all s calls ≡ taken_from w n s es
-    unfolding taken_all taken_in
+    unfolding taken_all taken_by
     taken-same = rw (run-starts w n s es sheet z long, entries-back es) (append-nil _)
 
     accurate : Accurate n s calls (after_runs s calls)

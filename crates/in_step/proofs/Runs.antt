@@ -13,7 +13,7 @@ use Rattle.plant.specs.Run.{entries, write_line, go_on, start_check, run}
 use Rattle.in_step.specs.System.{after_all}
 use Rattle.in_step.specs.Claims.{schedule_of, IsRun}
 use Rattle.in_step.proofs.Entries.{Taken}
-use Rattle.std.specs.Prelude.{Ok}
+use Rattle.std.specs.Prelude.{Ok, None}
 
 pub entries-back : (es : List Entry) → entries (schedule_of es) ≡ es
 unfolding entries
@@ -30,7 +30,7 @@ starts w n t a b z even twice = rw (z, even, eq-eqb b (2 * a) twice)
 
 module _ (w : Wiring) (n : ℕ) where
   goes : (k : ℕ) (s : State) (sheet : List ℕ) (es : List Entry) → Taken w n s es
-      → ((go_on w n k s sheet es).number ≡ 0)
+      → ((go_on w n k s sheet es).stopped ≡ None)
       × ((go_on w n k s sheet es).taken ≡ k + length es)
       × ((go_on w n k s sheet es).state ≡ after_all w n s es)
   unfolding go_on after_all
@@ -51,7 +51,7 @@ module _ (w : Wiring) (n : ℕ) where
       let ok = run-starts s es sheet z long in
       let r = goes 0 s sheet es t in
       record {
-        number = rw (ok, entries-back es) r.0;
+        stopped = rw (ok, entries-back es) r.0;
         taken = rw (ok, entries-back es) (omega (arith, r.1));
         state = rw (ok, entries-back es) r.2;
       }

@@ -1,6 +1,6 @@
 -- That boards which put the master's entries in force, each when it hears of it, hold the lines of the master's table.
 -- Assumes nothing.
-use Rattle.std.specs.Prelude.{Ok, ◌≡◌, ℕ, suc, ◌*◌, ◌≤◌, ◌<◌, List, [], ◌∷◌, length, take, Some, slice_get}
+use Rattle.std.specs.Prelude.{Ok, ◌≡◌, ℕ, suc, ◌*◌, ◌≤◌, ◌<◌, List, [], ◌∷◌, length, take, Some, None, slice_get}
 use Rattle.table.specs.Line.{line}
 use Rattle.table.specs.Rules.{table_check}
 use Rattle.table.specs.declared.wiring.Wiring.{Wiring}
@@ -16,7 +16,7 @@ schedule_of (e ∷ es) = e.kind ∷ e.station ∷ schedule_of es
 
 -- a run of the entries, with a run sheet of the length that it asks for, takes each of them, and leaves the table and the tally of the master
 pub record IsRun (w : Wiring) (n : ℕ) (s : State) (es : List Entry) (sheet : List ℕ) : Type 0 where
-  pub number : (run w n s (schedule_of es) sheet).number ≡ 0
+  pub stopped : (run w n s (schedule_of es) sheet).stopped ≡ None
   pub taken : (run w n s (schedule_of es) sheet).taken ≡ length es
   pub state : (run w n s (schedule_of es) sheet).state ≡ after_all w n s es
 

@@ -17,7 +17,7 @@ use Rattle.in_step.specs.Causes.{entries_at}
 
 -- entries as a list of one run, which takes them
 abbrev pub run_of : Wiring → ℕ → List Entry → List Call
-run_of w n es = call_of w n (schedule_of es) (replicate (4 * length es) 0) ∷ []
+run_of w n es = call_of (Ok w) n (schedule_of es) (replicate (4 * length es) 0) ∷ []
 
 -- board k knows who was not live at first: it is live, and its own line suspects just those
 pub record Knows (n : ℕ) (s : State) (y : System) (k : ℕ) : Type 0 where

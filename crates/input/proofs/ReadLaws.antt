@@ -14,7 +14,7 @@ use Rattle.input.specs.Input.{given, lines, digits_from, digits_value, size_of, 
 use Rattle.input.specs.Input.{read_lines, read_up_to}
 use Rattle.input.specs.Fault.{fault_in, parsed_of}
 use Rattle.input.specs.declared.fault.Fault.{Fault}
-use Rattle.input.proofs.NumberLaws.{number-has, number_two}
+use Rattle.input.proofs.NumberLaws.{number-has}
 use Rattle.lists.proofs.Writing.{sets-front}
 
 -- the entry of a line by the line's bytes
@@ -39,7 +39,7 @@ entry_spaced (a ∷ []) h s = absurd (omega arith)
 entry_spaced (a ∷ b ∷ l) h s = let e : take (suc (suc (length l)) - 2) l ≡ l = take_all _ l (omega arith) in rw (eq-eqb b 32 s, e)
 
 -- what `read_entry` needs of them
-pub ruleset entry_read = (entry_short, entry_unspaced, entry_spaced, number_two)
+pub ruleset entry_read = (entry_short, entry_unspaced, entry_spaced)
 
 -- an entry's line is short
 entry_has : (l : List ℕ) (e : ℕ × ℕ) → entry_in_line l ≡ Some e → length l ≤ 4

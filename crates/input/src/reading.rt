@@ -1,9 +1,10 @@
 // What an input holds: lines, the size, the entries. The call is `parse`; `read_size` and `read_station` read the numbers of arguments too.
-ghost use Rattle.std.specs.Prelude.{◌≡◌, [], ◌∷◌, ◌++◌, ◌+◌, ◌*◌, ◌≤◌, ◌<◌, length, take, drop, None, option_map, if◌then◌else◌, nat_lt};
+ghost use Rattle.std.specs.Prelude.{◌≡◌, [], ◌∷◌, ◌++◌, ◌+◌, ◌-◌, ◌*◌, ◌≤◌, ◌<◌, length, take, drop};
+ghost use Rattle.std.specs.Prelude.{None, Some, IfSome, option_map, if◌then◌else◌, nat_lt};
 ghost use Rattle.std.proofs.lemmas.List.Edits.{sets};
 ghost use Rattle.plant.specs.Kind.{kind_byte};
 ghost use Rattle.std.specs.List.{slice_split};
-ghost use Rattle.input.specs.Input.{is_line_feed, lines, digits_value, size_of, station_of, kind_of, entry_in_line, pair_of, room_for, read_into};
+ghost use Rattle.input.specs.Input.{is_line_feed, lines, is_digit, size_of, station_of, kind_of, entry_in_line, pair_of, room_for, read_into};
 ghost use Rattle.input.specs.Fault.{parsed_of, further_fault};
 
 use crate::fault::{self, Expected, Fault, Found};
@@ -167,28 +168,41 @@ pub(crate) fn kind_of(letter: u8) -> Option<Kind>
     }
 }
 
-// The size of a line, of one to three digits and nothing else. Whether a plant has so many boards is not asked.
+// The size of a line, of one to three digits and nothing else; of one or two it is read as a station is. Whether a plant has so many boards is not
+// asked.
+#[tactic(auto, unfolding(crate::specs::Input::digits_value, crate::specs::Input::digits_from))]
 pub fn read_size(line: &[u8]) -> Option<usize>
     ensures { result ≡ size_of line.now }
 {
-    read_number(line, 3)
+    match line {
+        [hundreds, tens, ones] => {
+            Some(100 * digit(*hundreds)? + 10 * digit(*tens)? + digit(*ones)?)
+        }
+        _ => read_station(line),
+    }
 }
 
 // The station of one or two digits and nothing else. Whether a plant has it is not asked.
+#[tactic(auto, unfolding(crate::specs::Input::digits_value, crate::specs::Input::digits_from))]
 pub fn read_station(digits: &[u8]) -> Option<usize>
-    ensures { result ≡ station_of digits.now }
+    ensures value { result ≡ station_of digits.now }
+    ensures fits_a_byte { IfSome result (λ station. station ≤ 99) }
 {
-    read_number(digits, 2)
+    match digits {
+        [ones] => digit(*ones),
+        [tens, ones] => Some(10 * digit(*tens)? + digit(*ones)?),
+        _ => None,
+    }
 }
 
-// The value of one to `most` digits, if they are that.
-fn read_number(digits: &[u8], most: usize) -> Option<usize>
-    requires { most ≤ 3 }
-    ensures { result ≡ digits_value most digits.now }
+// The value of a byte that is a digit.
+fn digit(byte: u8) -> Option<usize>
+    ensures value { result ≡ if is_digit byte then Some (byte - 48) else None }
+    ensures at_most_nine { IfSome result (λ d. d ≤ 9) }
 {
-    // That all are digits is asked first, since `parse` takes a sign too.
-    if most < digits.len() || !digits.iter().all(u8::is_ascii_digit) {
-        return None;
+    if byte.is_ascii_digit() {
+        Some((byte - b'0') as usize)
+    } else {
+        None
     }
-    str::from_utf8(digits).ok()?.parse().ok()
 }

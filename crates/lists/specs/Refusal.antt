@@ -100,7 +100,3 @@ a and b = result_and a b
 abbrev pub unless_refused {ℓ} : {A : Type 0} → {B : Type ℓ} → Result A Refusal → B → B → B
 unless_refused (Ok x) was after = after
 unless_refused (Err r) was after = was
-
--- what a refused call (its number is not 0) leaves or answers instead
-abbrev pub unless : {A : Type 0} → ℕ → A → A → A
-unless number refused accepted = if number == 0 then accepted else refused

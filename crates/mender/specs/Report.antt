@@ -37,18 +37,18 @@ abbrev pub mends : Wiring → ℕ → List ℕ → List Change
 mends w n t = changes t (mended w n t)
 
 -- Rule Mend, its refusals: 1, 2, then 23: the buffer for the report has fewer than 4n(n + 6) bytes
-unfoldable pub mend_check : Wiring → ℕ → ℕ → ℕ → Check
-mend_check w n len room = shape_check n len and ensure (nat_le (4 * table_length n) room) ReportTooShort
+abbrev pub mend_check : ℕ → ℕ → ℕ → Check
+mend_check n len room = shape_check n len and ensure (nat_le (4 * table_length n) room) ReportTooShort
 
 -- Rule Mend: the number of changes
 unfoldable pub mend : Wiring → ℕ → List ℕ → ℕ → Result ℕ Refusal
-mend w n t room = mend_check w n (length t) room and Ok (length (mends w n t))
+mend w n t room = mend_check n (length t) room and Ok (length (mends w n t))
 
 -- Rule Mend: the table after the call
 unfoldable pub table_after : Wiring → ℕ → List ℕ → ℕ → List ℕ
-table_after w n t room = unless_refused (mend_check w n (length t) room) t (mended w n t)
+table_after w n t room = unless_refused (mend_check n (length t) room) t (mended w n t)
 
 -- Rule Mend: the report after the call
 unfoldable pub report_after : Wiring → ℕ → List ℕ → List ℕ → List ℕ
 report_after w n t report =
-    unless_refused (mend_check w n (length t) (length report)) report (report_of (mends w n t) (length report))
+    unless_refused (mend_check n (length t) (length report)) report (report_of (mends w n t) (length report))

@@ -20,7 +20,7 @@ use table::lent::Table;
 use table::wiring::Wiring;
 
 // Mends the table, lists the changes in the report, and answers how many they are: refusals 1, 2 and 23.
-#[tactic(auto, unfolding(crate::specs::Report::mend, crate::specs::Report::mend_check, crate::specs::Report::table_after, crate::specs::Report::report_after))]
+#[tactic(auto, unfolding(crate::specs::Report::mend, crate::specs::Report::table_after, crate::specs::Report::report_after))]
 pub fn mend(wiring: Wiring, n: usize, table: &mut [u8], report: &mut [u8]) -> Result<usize, Refusal>
     ensures number_of_changes { result ≡ mend wiring n table.old (length report.old) }
     ensures mended_table { table.new ≡ table_after wiring n table.old (length report.old) }

@@ -14,7 +14,7 @@ use Rattle.table.specs.Rules.{line_rules, not_live, some_live, finished_if_live,
 use Rattle.lists.proofs.BoolLaws.{neither}
 use Rattle.lists.proofs.SearchLaws.{both, every-at, every-all}
 use Rattle.table.proofs.Accepting.{Accepted, accepted}
-use Rattle.std.specs.Prelude.{Ok}
+use Rattle.std.specs.Prelude.{Ok, None}
 use Rattle.lists.proofs.RefusalLaws.{by_check, ensure_ok, and_ok}
 use Rattle.table.proofs.CellLaws.{Line, line-holds, accepted-line}
 use Rattle.table.specs.declared.wiring.Wiring.{Wiring}
@@ -116,7 +116,7 @@ accepted-kept w n s e a z = pick (round_over n t) refl
 
 -- rule Empty schedule: on a wiring and a table that refusals 1 to 4 let through it is accepted and changes nothing. An end in itself
 pub empty-run : (w : Wiring) (n : ℕ) (s : State) → table_check w n s.table ≡ Ok tt
-    → run w n s [] [] ≡ record { number = 0; taken = 0; state = s; sheet = [] }
+    → run w n s [] [] ≡ record { stopped = None; taken = 0; state = s; sheet = [] }
 unfolding run start_check go_on entries
 empty-run w n s z = rw z
 

@@ -14,10 +14,9 @@ use Rattle.table.specs.Rules.{shape_check, table_check}
 use Rattle.table.specs.Table.{table_length}
 use Rattle.lists.proofs.BoolLaws.{choice}
 use Rattle.table.proofs.Accepting.{Accepted, table_ok}
-use Rattle.std.specs.Prelude.{Ok, Err}
+use Rattle.std.specs.Prelude.{Ok, Err, None, Some}
 use Rattle.std.specs.Simd.{first_chunks}
 use Rattle.lists.specs.declared.refusal.Refusal.{Refusal}
-use Rattle.lists.specs.Refusal.{number_of}
 use Rattle.lists.proofs.RefusalLaws.{ensure_ok, and_ok}
 use Rattle.table.specs.declared.wiring.Wiring.{Wiring}
 use Rattle.plant.specs.Turn.{replies, is_told, reply_outcome, test_outcome, makes_test, next_test, turn_outcome}
@@ -92,11 +91,11 @@ module _ (w : Wiring) (n k : ℕ) (s : State) (sheet schedule : List ℕ) where
   go-taken e s' sheet' h at z a b = rw (a, b, entries_at schedule k h, ← at, z, add-one k)
 
   pub go-stopped : (r : Refusal) → k < length schedule / 2 → entry_check n s (entry_at schedule k) ≡ Err r
-      → from-here ≡ record { number = number_of r; taken = k; state = s; sheet = sheet }
+      → from-here ≡ record { stopped = Some r; taken = k; state = s; sheet = sheet }
   unfolding go_on
   go-stopped r h e = rw (entries_at schedule k h, e)
 
-  pub go-done : length schedule / 2 ≤ k → from-here ≡ record { number = 0; taken = k; state = s; sheet = sheet }
+  pub go-done : length schedule / 2 ≤ k → from-here ≡ record { stopped = None; taken = k; state = s; sheet = sheet }
   unfolding go_on
   go-done h = rw (drop_of_length-le (entries schedule) {i = k} (omega (arith, entries-length schedule)))
 
@@ -123,7 +122,7 @@ start-facts w n t a b z = start_ok w n t a b _ (z)
 
 module _ (w : Wiring) (n : ℕ) (s : State) (schedule sheet : List ℕ) where
   pub run-refused : (r : Refusal) → start_check w n s.table (length schedule) (length sheet) ≡ Err r
-      → run w n s schedule sheet ≡ record { number = number_of r; taken = 0; state = s; sheet = sheet }
+      → run w n s schedule sheet ≡ record { stopped = Some r; taken = 0; state = s; sheet = sheet }
   unfolding run
   run-refused r e = rw e
 

@@ -1,6 +1,6 @@
 -- A round on the ring, worked out by hand: four boards, of which board 1 is dead.
 -- Assumes nothing.
-use Rattle.std.specs.Prelude.{◌≡◌, ℕ, List, [], ◌∷◌, replicate}
+use Rattle.std.specs.Prelude.{◌≡◌, ℕ, List, [], ◌∷◌, replicate, None}
 use Rattle.table.specs.Fresh.{fresh_table}
 use Rattle.table.specs.declared.wiring.Wiring.TheVariants.{Ring}
 use Rattle.plant.specs.Turn.{crash}
@@ -36,4 +36,4 @@ ring_table =
 
 -- so it is: one round, and a test for each board, the dead one too
 abbrev pub RoundOnTheRing : Type 0
-RoundOnTheRing = ring_round ≡ record { number = 0; taken = 7; state = state_of ring_table 1 4; sheet = ring_sheet }
+RoundOnTheRing = ring_round ≡ record { stopped = None; taken = 7; state = state_of ring_table 1 4; sheet = ring_sheet }

@@ -14,14 +14,17 @@ use Rattle.table.proofs.Accepting.{Accepted}
 use Rattle.table.specs.declared.wiring.Wiring.{Wiring}
 use Rattle.plant.specs.Turn.{kind_turn, kind_crash}
 use Rattle.plant.specs.Entry.{State, entry_of, acted, after}
-use Rattle.granter.specs.Grant.{grant_check, following}
+use Rattle.granter.specs.Grant.{grant_check}
 use Rattle.granter.specs.Drive.{Stand, stand_at, granted_at, grant_turn, after_grants, ended, ended_after, grants_made, outcome_after, drive}
 use Rattle.granter.proofs.GrantLaws.{grantable}
 use Rattle.single_crash.specs.Setting.{Sound, crash_at, RoundsSince}
 use Rattle.single_crash.specs.Drives.{after_drives, next_drive, grants_of_drives, DrivesAreGrants, RoundsByDrives}
 use Rattle.single_crash.proofs.Running.{Crew, Running, some-live, runs-after}
-use Rattle.single_crash.proofs.Crashing.{everyone, all_but, everyone-crew, others-crew, sound-run, crash-runs}
-use Rattle.lists.proofs.RefusalLaws.{by_check, number_nonzero}
+use Rattle.single_crash.proofs.Crashing.{all_but, others-crew, sound-run, crash-runs}
+use Rattle.lists.proofs.RefusalLaws.{by_check}
+use Rattle.lists.specs.declared.refusal.Refusal.TheVariants.{TallyFull}
+use Rattle.std.proofs.lemmas.Option.{none-some}
+use Rattle.std.specs.Prelude.{None}
 
 -- one drive is the grants that it makes
 drive-is : (w : Wiring) (n : ℕ) (q : Stand)
@@ -46,15 +49,15 @@ drives-are-grants w n p (suc k) =
     ∙ (ap (λ (q : Stand). after_grants w n q (next_drive w n p k).grants) (drives-are-grants w n p k)
     ∙ grants-add w n p (grants_of_drives w n p k) (next_drive w n p k).grants)
 
--- a drive that answers 0 has ended
-ends-zero : (w : Wiring) (n : ℕ) (q : Stand) → (drive w n q.state q.last).number ≡ 0
+-- a drive that no refusal stops has ended
+ends-zero : (w : Wiring) (n : ℕ) (q : Stand) → (drive w n q.state q.last).stopped ≡ None
     → ended n q.state.rounds (after_grants w n q (drive w n q.state q.last).grants).state ≡ true
 unfolding drive outcome_after
 ends-zero w n q =
     by_check (grant_check w n q.state.table q.last)
     (λ e. rw e (λ zero.
-    by_bool (ended_after w n q (grants_made w n q)) (λ o. o) (λ o. absurd (omega (arith, rw o at zero)))))
-    (λ r e. rw e (λ zero. absurd (number_nonzero r zero)))
+    by_bool (ended_after w n q (grants_made w n q)) (λ o. o) (λ o. absurd (none-some TallyFull (sym (rw o at zero))))))
+    (λ r e. rw e (λ zero. absurd (none-some r (sym zero))))
 
 -- the tally's rounds only grow
 rounds-turn : (w : Wiring) (n : ℕ) (q : Stand) → q.state.rounds ≤ (grant_turn w n q).state.rounds
@@ -92,16 +95,16 @@ module _ (w : Wiring) (n b : ℕ) (three : 3 ≤ n) (p : Stand) (k : ℕ) (given
 
   runs : (c : ℕ) × Running w n (all_but b) c q
   runs =
-      let before = runs-after w n everyone (everyone-crew w n ok.size) (following p.last) p (sound-run w n p given) k in
-      crash-runs w n b before.0 (after_grants w n p k) team hb before.1
+      let before = runs-after (sound-run given) k in
+      crash-runs b team hb before.1
 
   live-after : (g : ℕ) → some_live n (after_grants w n q g).state.table ≡ true
   live-after g =
-      let now = runs-after w n (all_but b) team runs.0 q runs.1 g in
-      some-live w n (all_but b) team (after_grants w n q g).state.table now.1.plain
+      let now = runs-after runs.1 g in
+      some-live team now.1.plain
 
   -- so many rounds have closed
-  drives-close : (drives : ℕ) → ((i : ℕ) → i < drives → (next_drive w n q i).number ≡ 0)
+  drives-close : (drives : ℕ) → ((i : ℕ) → i < drives → (next_drive w n q i).stopped ≡ None)
       → q.state.rounds + drives ≤ (after_drives w n q drives).state.rounds
   unfolding after_drives
   drives-close zero zeros = omega arith

@@ -1,6 +1,6 @@
 -- The same by drives one behind the other, each from the last granted number that the one before gave back.
 -- Assumes nothing.
-use Rattle.std.specs.Prelude.{◌≡◌, ℕ, zero, suc, ◌+◌, ◌≤◌, ◌<◌}
+use Rattle.std.specs.Prelude.{◌≡◌, ℕ, zero, suc, ◌+◌, ◌≤◌, ◌<◌, None}
 use Rattle.granter.specs.Drive.{Stand, stand_at, after_grants, DriveResult, drive}
 use Rattle.single_crash.specs.Setting.{Sound, crash_at, KnownDead, KnownInRounds}
 use Rattle.table.specs.declared.wiring.Wiring.{Wiring}
@@ -26,13 +26,13 @@ grants_of_drives w n p (suc k) = grants_of_drives w n p k + (next_drive w n p k)
 abbrev pub DrivesAreGrants : Type 0
 DrivesAreGrants = (w : Wiring) (n : ℕ) (p : Stand) (k : ℕ) → after_drives w n p k ≡ after_grants w n p (grants_of_drives w n p k)
 
--- Rule One dead board: b is known after so many drives behind the crash, if each of them answers 0
+-- Rule One dead board: b is known after so many drives behind the crash, if no refusal stops one of them
 abbrev pub KnownInDrives : Wiring → ℕ → ℕ → Type 0
 KnownInDrives w n drives =
     (p : Stand) (k b : ℕ) → Sound w n p → b < n
-    → ((i : ℕ) → i < drives → (next_drive w n (crash_at w n (after_grants w n p k) b) i).number ≡ 0)
+    → ((i : ℕ) → i < drives → (next_drive w n (crash_at w n (after_grants w n p k) b) i).stopped ≡ None)
     → KnownDead n (after_drives w n (crash_at w n (after_grants w n p k) b) drives).state.table b
 
--- Rule One dead board: since a drive that answers 0 has closed a round, as many drives are enough as rounds, from three boards on
+-- Rule One dead board: since a drive that no refusal stops has closed a round, as many drives are enough as rounds, from three boards on
 abbrev pub RoundsByDrives : Type 0
 RoundsByDrives = (w : Wiring) (n rounds : ℕ) → 3 ≤ n → KnownInRounds w n rounds → KnownInDrives w n rounds

@@ -3,26 +3,24 @@
 use mathlib.Core.Path.{◌≡◌, refl, sym, ap, ap₂, ◌∙◌}
 use mathlib.Core.Bool.{Bool, true, false, ◌&&◌, ◌||◌, or-true}
 use mathlib.Core.Logic.{◌≢◌}
-use mathlib.Core.List.{List, ◌++◌}
-use Prim.Native.Nat.{ℕ, ◌+◌, ◌-◌, ◌/◌, ◌%◌, max, ◌≤◌, ◌<◌}
-use native.Mathlib.Decide.{dec_le, dec_lt}
+use mathlib.Core.List.{List, ◌++◌, append_assoc}
+use Prim.Native.Nat.{ℕ, ◌+◌, ◌-◌, ◌/◌, ◌%◌, ◌≤◌, ◌<◌}
+use native.Mathlib.Decide.{dec_lt}
 use native.Mathlib.Nat.{suc-mul, mul-le-mul_right}
-use native.Mathlib.Numerals.{add-one}
 use native.Mathlib.Omega.{arith}
-use borrow.Author.Tests.{leb-true, eqb-true, eqb-false, le-leb, lt-leb, lt-ltb, eq-eqb, ne_eqb}
+use borrow.Author.Tests.{leb-true, eqb-true, eqb-false, le-leb, lt-ltb, eq-eqb, ne_eqb}
 use lib.Arith.{digits_div, digits_mod}
 use lib.Dec.{leb, eqb}
 use lib.ListN.{length, get_or, take, drop, length-append, length-take, length-drop, length-set, get_or-append}
-use lib.Seq.{length-take-le, get_or-append-add, get_or-take, get_or-drop, get_or-set_same, get_or-set_other, ext_get_or}
+use lib.Seq.{sets, sets-eq, drop-drop, length-take-le, get_or-append-add, get_or-take, get_or-drop, get_or-set_same, get_or-set_other, ext_get_or}
 use Rattle.table.specs.Wiring.{end_distance}
 use Rattle.table.proofs.WiringLaws.{end-pos}
 use Rattle.table.specs.Table.{head, stride, table_length, line_start, cell, set_cell, status, next_distance, finished, tests_made, status_told}
 use Rattle.table.specs.Table.{told_by, told_by_column, told_by_none, not_recorded, rounds_ago, rounds_ago_column, suspects, row_start, row, set_row}
 use Rattle.table.specs.Table.{next_column, tests_column}
 use Rattle.table.specs.Rules.{pass_rule, exit_rule, suspicion_rule, row_rule_by, row_rule, line_rules}
-use Rattle.lists.specs.Search.{every}
 use Rattle.lists.proofs.BoolLaws.{every-same}
-use Rattle.lists.proofs.SearchLaws.{both, every-suc, every-at, every-all}
+use Rattle.lists.proofs.SearchLaws.{both, every-at, every-all}
 use Rattle.table.proofs.Accepting.{Accepted}
 use Rattle.table.specs.declared.wiring.Wiring.{Wiring}
 
@@ -59,6 +57,14 @@ row_inside n t i e h = omega (arith, line-inside n i h)
 pub row-part : (n : ℕ) (t : List ℕ) (i a : ℕ) → a ≡ row_start n i → take (a + n - a) (drop a t) ≡ row n t i
 unfolding row
 row-part n t i a e = let w : a + n - a ≡ n = omega arith in rw (w, e)
+
+-- a line in place of line i, as the code puts it there
+pub line-written : (n : ℕ) (t l : List ℕ) (i a m : ℕ) → a ≡ line_start n i → length t ≡ table_length n → i < n → length l ≡ stride n → m ≡ stride n
+    → take a t ++ (l ++ drop m (drop a t)) ≡ sets t (line_start n i) l
+line-written n t l i a m e s h long w =
+    let fits : a + length l ≤ length t = omega (arith, line-inside n i h) in
+    let same : m ≡ length l = omega arith in
+    rw (← e, same, drop-drop (length l) a t, sets-eq l t a fits, append_assoc)
 
 pub cell_same : (n : ℕ) (t : List ℕ) (i c v : ℕ) → length t ≡ table_length n → i < n → c < stride n → cell n (set_cell n t i c v) i c ≡ v
 unfolding cell set_cell
@@ -151,17 +157,6 @@ pub row_rule_of_row : (n : ℕ) (t r : List ℕ) (i : ℕ) → i < n → r ≡ r
 unfolding row_rule
 row_rule_of_row n t r i h e l =
     rw (l, e) (ap₂ (λ (a : ℕ) (b : Bool). eqb a 0 && b) (row_at n t i i h) (every-same _ _ n (λ k hk. ap (λ (a : ℕ). leb a 1) (row_at n t i k hk))))
-
--- the greatest byte so far is in its range as long as all bytes passed are
-pub range-next : (r : List ℕ) (k greatest x : ℕ) → leb greatest 1 ≡ every (λ j. leb (get_or r j 0) 1) k → x ≡ max greatest (get_or r k 0)
-    → leb x 1 ≡ every (λ j. leb (get_or r j 0) 1) (k + 1)
-range-next r k greatest x f g =
-    rw (g, add-one, every-suc (λ j. leb (get_or r j 0) 1) k, ← f) (max-leb greatest (get_or r k 0) 1 (dec_le greatest 1) (dec_le (get_or r k 0) 1))
-  where
-    max-leb : (a b c : ℕ) → Dec (a ≤ c) → Dec (b ≤ c) → leb (max a b) c ≡ (leb a c && leb b c)
-    max-leb a b c (yes p) (yes q) = rw (le-leb a c p, le-leb b c q) (le-leb (max a b) c (omega arith))
-    max-leb a b c (yes p) (no q) = rw (le-leb a c p, lt-leb b c (omega arith)) (lt-leb (max a b) c (omega arith))
-    max-leb a b c (no p) q = rw (lt-leb a c (omega arith)) (lt-leb (max a b) c (omega arith))
 
 -- the rules of bytes 1 to 3, of their values, by the end distance
 pub record Pass (end next finished tests : ℕ) : Type 0 where

@@ -28,6 +28,13 @@ pub const HEAD: u16 = 6;
 // The length of the greatest table, that of 64 stations.
 pub const GREATEST_TABLE: usize = 64 * (64 + HEAD as usize);
 
+// The length of a line of a table of n stations.
+pub fn line_length(n: u8) -> usize
+    ensures { result ≡ stride n }
+{
+    n as usize + HEAD as usize
+}
+
 // The length of a table of n stations.
 #[tactic(auto, unfolding(crate::specs::Table::table_length, crate::specs::Table::line_start))]
 pub fn table_length(n: u8) -> usize
@@ -42,7 +49,7 @@ fn lines_length(lines: u8, n: u8) -> usize
     ensures len_of_lines { result ≡ line_start n lines }
     ensures upper_bound { result ≤ 255 * stride 255 }
 {
-    lines as usize * (n as usize + HEAD as usize)
+    lines as usize * line_length(n)
 }
 
 // Where line i begins.

@@ -1,11 +1,14 @@
 // The call for a fresh table.
-ghost use Rattle.std.specs.Prelude.{◌≡◌, length};
+ghost use Rattle.std.specs.Prelude.{◌≡◌, ◌<◌, length};
+ghost use Rattle.std.proofs.lemmas.List.Edits.{sets};
+ghost use Rattle.lists.specs.Search.{list_of};
 ghost use Rattle.table.specs.Lent.{IsSameLoan};
+ghost use Rattle.table.specs.Table.{stride, line_start};
 ghost use Rattle.table.specs.Rules.{shape_check};
 ghost use Rattle.table.specs.Fresh.{fresh_byte, fresh_table, fresh_after};
 
 use crate::lent::TableMut;
-use crate::{cells, rules};
+use crate::{Station, cells, rules};
 use lists::refusal::Refusal;
 
 // Fills the table: every line live, next distance 1, byte 4 255, all else 0.
@@ -22,27 +25,35 @@ pub fn fresh_table(n: usize, table: &mut [u8]) -> Result<(), Refusal>
     Ok(())
 }
 
-#[tactic(auto, using(lists::proofs::Loops::loops), unfolding(crate::specs::Fresh::fresh_table))]
+// Writes the lines.
 fn write_fresh(table: &mut TableMut)
     ensures same_loan { IsSameLoan table.old table.new }
     ensures fresh_bytes { table.new.bytes.now ≡ fresh_table table.old.n }
 {
-    for (p, byte) in table.bytes.iter_mut().enumerate() {
-        *byte = fresh_byte(table.n, p);
+    for i in 0..table.n {
+        put_fresh_line(table, Station(i));
     }
 }
 
-// Byte p of a fresh table, or of a fresh line.
-#[tactic(auto, unfolding(crate::specs::Fresh::fresh_byte))]
-pub fn fresh_byte(n: u8, p: usize) -> u8
-    ensures { result ≡ fresh_byte n p }
+// Writes the fresh line of station i.
+fn put_fresh_line(table: &mut TableMut, i: Station)
+    requires { i.0 < table.old.n }
+    ensures same_loan { IsSameLoan table.old table.new }
+    ensures line_written { table.new.bytes.now
+        ≡ sets table.old.bytes.now (line_start table.old.n i.0)
+        (list_of (fresh_byte table.old.n) (stride table.old.n)) }
 {
-    let column = p % (n as usize + cells::HEAD as usize);
-    if column == cells::NEXT as usize {
-        return 1;
-    }
-    if column == cells::TOLD_BY as usize {
-        return cells::TOLD_BY_NONE;
-    }
-    0
+    let a = cells::line_start(table.n, i);
+    let e = a + cells::line_length(table.n);
+    write_line(table.n, &mut table.bytes[a..e]);
+}
+
+// Fills a line of a table of n stations.
+pub fn write_line(n: u8, line: &mut [u8])
+    requires { length line.old ≡ stride n }
+    ensures { line.new ≡ list_of (fresh_byte n) (stride n) }
+{
+    line.fill(0);
+    line[cells::NEXT as usize] = 1;
+    line[cells::TOLD_BY as usize] = cells::TOLD_BY_NONE;
 }

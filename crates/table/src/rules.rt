@@ -9,7 +9,6 @@ use crate::lent::Table;
 use crate::status::Status;
 use crate::wiring::Wiring;
 use crate::{Station, cells, sizes};
-use lists::bytes;
 use lists::refusal::Refusal;
 
 // Refusals 1 and 2.
@@ -94,18 +93,11 @@ pub fn exit_rule(n: u8, i: Station, status: Status, by: u8, ago: u8) -> bool
     (status == Status::LeftTold) & ((by == cells::NOT_RECORDED) | ((by < n) & (by != i.0)))
 }
 
-// Whether the row of station i keeps its rules: the byte about i itself, and every byte, by the greatest one. The loop has no exit, so that the
-// compiler takes many bytes at a time.
-#[tactic(auto, using(lists::proofs::Loops::loops))]
+// Whether the row of station i keeps its rules: the byte about i itself, and every byte.
+#[tactic(auto, unfolding(words::specs::Words::are_bits))]
 pub fn keeps_row_rule(row: &[u8], i: Station) -> bool
     requires { i.0 < length row.now }
     ensures { result ≡ row_rule_by (length row.now) i.0 (slice_index row.now) }
 {
-    let of = i.0 as usize;
-    let own = row[of];
-    let mut greatest: u8 = 0;
-    for byte in row {
-        greatest = bytes::greater(greatest, *byte);
-    }
-    (own == 0) & (greatest <= 1)
+    (row[i.0 as usize] == 0) & words::are_bits(row)
 }

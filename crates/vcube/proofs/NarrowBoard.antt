@@ -22,12 +22,12 @@ use Rattle.board.specs.Calls.{next_answer, replied_answer, not_replied_answer}
 use Rattle.board.specs.Calls.{fresh_after, row_sent, replied_after, not_replied_after, told_after, exchanged_after, closed_after}
 use Rattle.vcube.proofs.Narrow.{Narrow, Far, behind, before, checked, answered, left, station_far}
 
-place_size : (w : Wiring) (n i len : ℕ) → place_check w n i len ≡ Ok tt → is_size n ≡ true
+place_size : (n i len : ℕ) → place_check n i len ≡ Ok tt → is_size n ≡ true
 unfolding place_check
-place_size w n i len e = ensure_ok _ _ tt (and_ok _ _ tt e).0
+place_size n i len e = ensure_ok _ _ tt (and_ok _ _ tt e).0
 
 module _ (w : Wiring) (n : ℕ) where
-  place_far : (len : ℕ) → Far (λ i. place_check w n i len)
+  place_far : (len : ℕ) → Far (λ i. place_check n i len)
   unfolding place_check
   place_far len =
       behind (ensure (is_size n) SizeOutOfRange) _
@@ -62,7 +62,7 @@ module _ (w : Wiring) (n : ℕ) where
   unfolding sent_check live_check line_check
   sent_far_by i l =
       behind (live_check w n i l) _
-      (λ e. before _ _ (station_far n (place_size w n i (length l) (and_ok _ _ tt (and_ok _ _ tt e).0).0)))
+      (λ e. before _ _ (station_far n (place_size n i (length l) (and_ok _ _ tt (and_ok _ _ tt e).0).0)))
 
   exchanged_far : (l : List ℕ) (b len : ℕ) → Far (λ i. exchanged_check w n i l b len)
   unfolding exchanged_check
@@ -73,10 +73,10 @@ module _ (w : Wiring) (n : ℕ) where
   exchanged_far_by i l len = before _ _ (sent_far_by i l)
 
   -- the calls, in the header's order
-  pub place_narrow : (len : ℕ) → Narrow (λ i. place_check w n i len)
+  pub place_narrow : (len : ℕ) → Narrow (λ i. place_check n i len)
   place_narrow len = checked _ (place_far len)
 
-  pub fresh_narrow : (l : List ℕ) → Narrow (λ i. fresh_after w n i l)
+  pub fresh_narrow : (l : List ℕ) → Narrow (λ i. fresh_after n i l)
   fresh_narrow l = left _ (place_far (length l)) l _
 
   pub next_narrow : (l : List ℕ) → Narrow (λ i. next_answer w n i l)
@@ -133,3 +133,7 @@ turn_outcome (Ok o) = refl
 turn_outcome (Err r) = refl
 
 pub ruleset outcome_laws = (turn_number, turn_outcome)
+
+pub ruleset not_replied_laws = (not_replied_narrow, not_replied_after_narrow)
+
+pub ruleset exchanged_laws = (exchanged_narrow, exchanged_after_narrow)

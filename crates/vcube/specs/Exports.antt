@@ -26,7 +26,7 @@ use Rattle.input.specs.Fault.{fault_in}
 use Rattle.input.specs.Words.{fault_words}
 use Rattle.plant.specs.declared.Tally.{Tally}
 use Rattle.plant.specs.Entry.{State, state_of}
-use Rattle.plant.specs.Run.{RunResult}
+use Rattle.plant.specs.Run.{RunResult, stop_refusal}
 use Rattle.granter.specs.Drive.{DriveResult, drive_outcome}
 use Rattle.lamp.specs.declared.Doubt.{Doubt}
 use Rattle.saved.specs.declared.Loaded.{Loaded}
@@ -50,21 +50,38 @@ on_wiring number refused call = by_wiring (wiring_of number) refused call
 abbrev pub no_such_wiring : ℕ
 no_such_wiring = number_of NoSuchWiring
 
--- Rule Exact calls, for C. Run: the outcome by its parts: the number, the entries taken, table, rounds and tests, and the sheet
-abbrev pub outcome_out : ℕ → ℕ → List ℕ → ℕ → ℕ → List ℕ → RunResult
-outcome_out number taken t rounds tests sheet = record { number = number; taken = taken; state = state_of t rounds tests; sheet = sheet }
+-- Rule Exact calls, for C. Run: what it answers and leaves: the number, the entries taken, table, rounds and tests, and the sheet
+pub record RunOut : Type 0 where
+  pub number : ℕ
+  pub taken : ℕ
+  pub table : List ℕ
+  pub rounds : ℕ
+  pub tests : ℕ
+  pub sheet : List ℕ
 
--- Run, of a number that is no wiring's: refused before anything
-abbrev pub run_on_none : State → List ℕ → RunResult
-run_on_none s sheet = record { number = no_such_wiring; taken = 0; state = s; sheet = sheet }
+abbrev pub outcome_out : ℕ → ℕ → List ℕ → ℕ → ℕ → List ℕ → RunOut
+outcome_out number taken t rounds tests sheet =
+    record { number = number; taken = taken; table = t; rounds = rounds; tests = tests; sheet = sheet }
 
--- Drive: the outcome by its parts: the number, table, rounds and tests, the last granted number and the grants made
-abbrev pub drive_out : ℕ → List ℕ → ℕ → ℕ → ℕ → ℕ → DriveResult
-drive_out number t rounds tests last grants = drive_outcome number (state_of t rounds tests) last grants
+-- so of the run: 0 where no refusal stopped it
+abbrev pub run_out : RunResult → RunOut
+run_out o = outcome_out (stop_refusal o.stopped) o.taken o.state.table o.state.rounds o.state.tests o.sheet
 
--- Drive, of a number that is no wiring's
-abbrev pub drive_on_none : State → ℕ → DriveResult
-drive_on_none s last = drive_outcome no_such_wiring s last 0
+-- Drive: what it answers and leaves: the number, table, rounds and tests, the last granted number and the grants made
+pub record DriveOut : Type 0 where
+  pub number : ℕ
+  pub table : List ℕ
+  pub rounds : ℕ
+  pub tests : ℕ
+  pub last : ℕ
+  pub grants : ℕ
+
+abbrev pub drive_out : ℕ → List ℕ → ℕ → ℕ → ℕ → ℕ → DriveOut
+drive_out number t rounds tests last grants =
+    record { number = number; table = t; rounds = rounds; tests = tests; last = last; grants = grants }
+
+abbrev pub driven_out : DriveResult → DriveOut
+driven_out d = drive_out (stop_refusal d.stopped) d.state.table d.state.rounds d.state.tests d.last d.grants
 
 -- Doubt lamp: the number, and the two stations of the pair
 pub record PairResult : Type 0 where

@@ -20,8 +20,8 @@ use table::wiring::Wiring;
 #[unsafe(no_mangle)]
 pub extern "C" fn vcube_board_fresh(wiring: usize, n: usize, own: usize, line: &mut [u8]) -> u8
     ensures number { let len = length line.old in
-        result ≡ on_wiring wiring no_such_wiring (λ w. number_of_result (place_check w n own len)) }
-    ensures line_after { line.new ≡ on_wiring wiring line.old (λ w. fresh_after w n own line.old) }
+        result ≡ on_wiring wiring no_such_wiring (λ w. number_of_result (place_check n own len)) }
+    ensures line_after { line.new ≡ on_wiring wiring line.old (λ w. fresh_after n own line.old) }
 {
     let Ok(wiring) = Wiring::try_from(wiring) else {
         return NO_SUCH_WIRING;
@@ -107,7 +107,7 @@ pub extern "C" fn vcube_board_replied(
 }
 
 // Board, not replied: the turn without a reply; its outcome into outcome, 0 where it is refused.
-#[tactic(auto, using(crate::proofs::OnWiring::on_each, crate::proofs::NarrowBoard::not_replied_narrow, crate::proofs::NarrowBoard::not_replied_after_narrow))]
+#[tactic(auto, using(crate::proofs::OnWiring::on_each, crate::proofs::NarrowBoard::not_replied_laws))]
 #[unsafe(no_mangle)]
 pub extern "C" fn vcube_board_not_replied(
     wiring: usize,
@@ -154,7 +154,7 @@ pub extern "C" fn vcube_board_told(
 }
 
 // Board, exchanged: the board joins the row that another sent into its own.
-#[tactic(auto, using(crate::proofs::OnWiring::on_each, crate::proofs::NarrowBoard::exchanged_narrow, crate::proofs::NarrowBoard::exchanged_after_narrow))]
+#[tactic(auto, using(crate::proofs::OnWiring::on_each, crate::proofs::NarrowBoard::exchanged_laws))]
 #[unsafe(no_mangle)]
 pub extern "C" fn vcube_board_exchanged(
     wiring: usize,

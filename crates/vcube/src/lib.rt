@@ -10,13 +10,12 @@ ghost use Rattle.table.specs.Fresh.{fresh_after};
 ghost use Rattle.station.specs.Calls.{group_refusal, group_after, row_refusal, row_part, row_offset, assignment_refusal, assignment_after};
 ghost use Rattle.station.specs.Calls.{assignment_count};
 ghost use Rattle.plant.specs.Entry.{state_of};
-ghost use Rattle.plant.specs.Run.{run};
-ghost use Rattle.detection.specs.Runs.{call_of, CountsTaken};
+ghost use Rattle.detection.specs.Runs.{call_of, run_by, CountsTaken};
 ghost use Rattle.detection.specs.InList.{DetectionInList, DrivenDetectionInList};
-ghost use Rattle.detection.specs.Driven.{a_run, a_drive};
+ghost use Rattle.detection.specs.Driven.{a_run, a_drive, drive_by};
 ghost use Rattle.accuracy.specs.Accurate.{AccurateAfter};
 ghost use Rattle.granter.specs.Grant.{grant_check, grant_station};
-ghost use Rattle.granter.specs.Drive.{drive, StoppedIfTaken};
+ghost use Rattle.granter.specs.Drive.{StoppedIfTaken};
 ghost use Rattle.lamp.specs.Doubt.{doubt_lamp};
 ghost use Rattle.mender.specs.Report.{mend, table_after, report_after};
 ghost use Rattle.saved.specs.Load.{size_refusal, saved_size, size_figure, load_refusal, load_answer, loaded_figures, load_after};
@@ -25,8 +24,8 @@ ghost use Rattle.saved.specs.Convert.{convert_refusal, convert_after, converted_
 ghost use Rattle.figures.specs.Batch.{figures};
 ghost use Rattle.figures.specs.Totals.{totals, join, figures_of_totals};
 ghost use Rattle.table.specs.Wiring.{wiring_of};
-ghost use Rattle.vcube.specs.Exports.{on_wiring, no_such_wiring, run_on_none, drive_on_none};
-ghost use Rattle.vcube.specs.Exports.{outcome_out, drive_out, pair_out, pair_of, tally_of, loaded_out, filled, figures_members};
+ghost use Rattle.vcube.specs.Exports.{on_wiring, no_such_wiring};
+ghost use Rattle.vcube.specs.Exports.{outcome_out, run_out, drive_out, driven_out, pair_out, pair_of, tally_of, loaded_out, filled, figures_members};
 ghost use Rattle.slots.specs.Board.{slot_answer};
 ghost use Rattle.latency.specs.Wait.{wait_answer};
 ghost use Rattle.single_crash.specs.Bounds.{one_dead_answer};
@@ -171,7 +170,6 @@ pub extern "C" fn vcube_row(
 
 // Run: carries out a schedule on a table and the tally that rounds and tests hold, and fills the sheet. The tally given back is left in
 // rounds and tests, and how many entries were taken in taken.
-#[tactic(auto, using(crate::proofs::OnWiring::on_each))]
 #[unsafe(no_mangle)]
 pub extern "C" fn vcube_run(
     wiring: usize,
@@ -185,13 +183,13 @@ pub extern "C" fn vcube_run(
 ) -> u8
     ensures outcome { let s = state_of table.old rounds.old tests.old in
         outcome_out result taken.new table.new rounds.new tests.new sheet.new
-        ≡ on_wiring wiring (run_on_none s sheet.old) (λ w. run w n s schedule.now sheet.old) }
-    ensures counts_taken { IfOk (wiring_of wiring) (λ w. CountsTaken (call_of w n schedule.now sheet.old)
-        (state_of table.old rounds.old tests.old) taken.new) }
-    ensures detection { IfOk (wiring_of wiring) (λ w. DetectionInList (call_of w n schedule.now sheet.old)
-        (state_of table.old rounds.old tests.old) (state_of table.new rounds.new tests.new)) }
-    ensures accurate { IfOk (wiring_of wiring) (λ w. AccurateAfter (a_run (call_of w n schedule.now sheet.old))
-        (state_of table.old rounds.old tests.old) (state_of table.new rounds.new tests.new)) }
+        ≡ run_out (run_by (wiring_of wiring) n s schedule.now sheet.old) }
+    ensures counts_taken { CountsTaken (call_of (wiring_of wiring) n schedule.now sheet.old)
+        (state_of table.old rounds.old tests.old) taken.new }
+    ensures detection { DetectionInList (call_of (wiring_of wiring) n schedule.now sheet.old)
+        (state_of table.old rounds.old tests.old) (state_of table.new rounds.new tests.new) }
+    ensures accurate { AccurateAfter (a_run (call_of (wiring_of wiring) n schedule.now sheet.old))
+        (state_of table.old rounds.old tests.old) (state_of table.new rounds.new tests.new) }
 {
     let Ok(wiring) = Wiring::try_from(wiring) else {
         *taken = 0;
@@ -232,7 +230,6 @@ pub extern "C" fn vcube_grant(
 
 // Drive: grants and turns on a table and the tally that rounds and tests hold, until a round closes, nobody is left live, or a tally is
 // full. The tally and the last granted number that it gives back are left in rounds, tests and last, and the grants made in grants.
-#[tactic(auto, using(crate::proofs::OnWiring::on_each))]
 #[unsafe(no_mangle)]
 pub extern "C" fn vcube_drive(
     wiring: usize,
@@ -245,13 +242,13 @@ pub extern "C" fn vcube_drive(
 ) -> u8
     ensures outcome { let s = state_of table.old rounds.old tests.old in
         drive_out result table.new rounds.new tests.new last.new grants.new
-        ≡ on_wiring wiring (drive_on_none s last.old) (λ w. drive w n s last.old) }
+        ≡ driven_out (drive_by (wiring_of wiring) n s last.old) }
     ensures stopped_if_taken { let start = state_of table.old rounds.old tests.old in
         IfOk (wiring_of wiring) (λ w. StoppedIfTaken w n start last.old grants.new) }
     ensures detection { IfOk (wiring_of wiring) (λ w. DrivenDetectionInList w n last.old
         (state_of table.old rounds.old tests.old) (state_of table.new rounds.new tests.new)) }
-    ensures accurate { IfOk (wiring_of wiring) (λ w. AccurateAfter (a_drive w n last.old)
-        (state_of table.old rounds.old tests.old) (state_of table.new rounds.new tests.new)) }
+    ensures accurate { AccurateAfter (a_drive (wiring_of wiring) n last.old)
+        (state_of table.old rounds.old tests.old) (state_of table.new rounds.new tests.new) }
 {
     let Ok(wiring) = Wiring::try_from(wiring) else {
         *grants = 0;

@@ -3,13 +3,14 @@
 use mathlib.Core.Path.{◌≡◌, refl, ap, ◌∙◌, sym}
 use mathlib.Core.Bool.{Bool, true, false}
 use mathlib.Core.List.{List, [], ◌∷◌, ◌++◌}
-use Rattle.std.specs.Prelude.{Ok, Err}
+use Rattle.std.specs.Prelude.{Ok, Err, Some}
 use Prim.Native.Nat.{ℕ, zero, suc, ◌*◌, ◌≤◌}
 use native.Mathlib.Omega.{arith}
 use borrow.Author.Tests.{eq-eqb}
 use lib.ListN.{length, take, drop, length-take, take-append-drop}
 use lib.Seq.{take_at, sets}
 use Rattle.lists.proofs.Writing.{sets-front}
+use Rattle.lists.specs.declared.refusal.Refusal.TheVariants.{SizeOutOfRange}
 use Rattle.table.specs.Sizes.{is_size}
 use Rattle.table.specs.Table.{table_length}
 use Rattle.table.specs.declared.wiring.Wiring.{Wiring}
@@ -22,13 +23,13 @@ use Rattle.input.specs.declared.reading.Parsed.{Parsed}
 use Rattle.input.specs.declared.reading.Unread.{Unread}
 use Rattle.input.specs.Input.{lines, read_input, read_into}
 use Rattle.input.specs.Fault.{fault_in, parsed_of}
-use Rattle.watch.specs.Watched.{Answer, said, says_run, said_with, watched_with, run_answer, carried_out, watched}
+use Rattle.watch.specs.Watched.{said, says_run, said_with, watched_with, run_answer, carried_out, watched}
 use Rattle.input.proofs.ReadLaws.{read_fits}
 use Rattle.input.proofs.AnswerLaws.{answer-ok, answer-err, read-whole}
 
 -- a run of what is no size is refused, whatever the table
 size-refused : (wiring : Wiring) (n : ℕ) (s : State) (schedule sheet : List ℕ) → is_size n ≡ false
-    → run wiring n s schedule sheet ≡ record { number = 1; taken = 0; state = s; sheet = sheet }
+    → run wiring n s schedule sheet ≡ record { stopped = Some SizeOutOfRange; taken = 0; state = s; sheet = sheet }
 unfolding run start_check table_check shape_check
 size-refused wiring n s schedule sheet e = rw e
 
@@ -43,9 +44,9 @@ part-back k l =
     whole (suc k) [] = refl
     whole (suc k) (x ∷ l) = ap (λ (r : List ℕ). x ∷ r) (whole k l)
 
--- a refused size: number 1, nothing taken, zero tallies; the run sheet is unchanged
-abbrev refused : Answer
-refused = record { number = 1; taken = 0; tally = record { rounds = 0; tests = 0 } }
+-- a refused size: nothing taken, zero tallies; the run sheet is unchanged
+abbrev refused : RanPlant
+refused = record { stopped = Some SizeOutOfRange; taken = 0; tally = record { rounds = 0; tests = 0 } }
 
 carried-refused : (wiring : Wiring) (n : ℕ) (schedule lent : List ℕ) → is_size n ≡ false
     → carried_out wiring n schedule lent ≡ said_with (says_run refused) lent

@@ -5,27 +5,20 @@ use Rattle.std.proofs.lemmas.List.Edits.{sets}
 use Rattle.table.specs.declared.wiring.Wiring.{Wiring}
 use Rattle.table.specs.Fresh.{fresh_table}
 use Rattle.plant.specs.declared.Ran.{Ran}
-use Rattle.plant.specs.declared.Tally.{Tally}
 use Rattle.plant.specs.Entry.{state_of}
-use Rattle.plant.specs.Run.{RunResult, stop_refusal, run}
+use Rattle.plant.specs.Run.{RunResult, run}
 use Rattle.input.specs.declared.reading.Unread.{Unread}
 use Rattle.input.specs.Input.{Reading, read_input}
-
--- what a run answers: the number (0 or a refusal), how many entries were taken, and the tally
-pub record Answer : Type 0 where
-  pub number : ℕ
-  pub taken : ℕ
-  pub tally : Tally
 
 -- what is printed: the number of an unreadable line, counted from 1, or what the run answers
 pub data Said : Type 0 where
   says_unread : ℕ → Said
-  says_run : Answer → Said
+  says_run : Ran → Said
 
 -- what an answer says
 abbrev pub said : Result Ran Unread → Said
 said (Err u) = says_unread u.line
-said (Ok r) = says_run (record { number = stop_refusal r.stopped; taken = r.taken; tally = r.tally })
+said (Ok r) = says_run r
 
 -- what comes of an input: what is printed, and the sheet, of which the lines of the entries taken are printed
 pub record Watched : Type 0 where
@@ -40,8 +33,8 @@ abbrev pub watched_with : Result Ran Unread → List ℕ → Watched
 watched_with r sheet = said_with (said r) sheet
 
 -- what a run with this outcome answers
-abbrev pub run_answer : RunResult → Answer
-run_answer o = record { number = o.number; taken = o.taken; tally = record { rounds = o.state.rounds; tests = o.state.tests } }
+abbrev pub run_answer : RunResult → Ran
+run_answer o = record { stopped = o.stopped; taken = o.taken; tally = record { rounds = o.state.rounds; tests = o.state.tests } }
 
 -- an outcome, with the sheet of the run as the first part of the lent one
 abbrev ran_on : List ℕ → RunResult → Watched

@@ -2,9 +2,11 @@
 -- conditions hold, d·d rounds close and one more, and each has the seven tests of rule Count of tests from the fifth on. And three boards, a size
 -- that is no power of two. And four boards on the ring, board 1 dead, with a test for each board in every round.
 -- Assumes nothing.
-use Rattle.std.specs.Prelude.{◌≡◌, ℕ, ◌*◌, List, [], ◌∷◌, length, map, replicate}
+use Rattle.std.specs.Prelude.{◌≡◌, ℕ, ◌*◌, List, [], ◌∷◌, length, map, replicate, Result, Ok}
+use Rattle.lists.specs.declared.refusal.Refusal.{Refusal}
 use Rattle.table.specs.Table.{set_cell, status_column}
 use Rattle.table.specs.Fresh.{fresh_table}
+use Rattle.table.specs.Wiring.{wiring_of}
 use Rattle.table.specs.declared.wiring.Wiring.{Wiring}
 use Rattle.table.specs.declared.wiring.Wiring.TheVariants.{Cube, Ring}
 use Rattle.plant.specs.Entry.{State, state_of}
@@ -18,8 +20,8 @@ turns_of [] = []
 turns_of (i ∷ is) = 1 ∷ i ∷ turns_of is
 
 -- a run with a sheet of zeros
-abbrev pub call_with : Wiring → ℕ → List ℕ → Call
-call_with w n schedule = record { wiring = w; size = n; schedule = schedule; sheet = replicate (2 * length schedule) 0 }
+abbrev pub call_with : Result Wiring Refusal → ℕ → List ℕ → Call
+call_with v n schedule = record { wiring = v; size = n; schedule = schedule; sheet = replicate (2 * length schedule) 0 }
 
 -- four boards, board 3 dead, nothing suspected
 unfoldable pub boards : State
@@ -32,10 +34,10 @@ one_pass rest = 0 ∷ 1 ∷ 2 ∷ 0 ∷ 1 ∷ 2 ∷ 2 ∷ 0 ∷ 1 ∷ 2 ∷ rest
 -- the second run has another size, and the third a kind that is none, so its last entries are not reached
 unfoldable pub calls : List Call
 calls =
-    call_with Cube 4 (turns_of (one_pass (0 ∷ 1 ∷ [])))
-    ∷ call_with Cube 8 (turns_of (0 ∷ 1 ∷ []))
-    ∷ call_with Cube 4 (1 ∷ 2 ∷ 9 ∷ 0 ∷ 1 ∷ 0 ∷ [])
-    ∷ call_with Cube 4 (turns_of (0 ∷ 1 ∷ 2 ∷ 2 ∷ 0 ∷ 1 ∷ 2 ∷ one_pass (one_pass (one_pass (2 ∷ [])))))
+    call_with (Ok Cube) 4 (turns_of (one_pass (0 ∷ 1 ∷ [])))
+    ∷ call_with (Ok Cube) 8 (turns_of (0 ∷ 1 ∷ []))
+    ∷ call_with (Ok Cube) 4 (1 ∷ 2 ∷ 9 ∷ 0 ∷ 1 ∷ 0 ∷ [])
+    ∷ call_with (Ok Cube) 4 (turns_of (0 ∷ 1 ∷ 2 ∷ 2 ∷ 0 ∷ 1 ∷ 2 ∷ one_pass (one_pass (one_pass (2 ∷ [])))))
     ∷ []
 
 -- the premises, the tests of the closed rounds, those of the open one, and the count of the claim
@@ -53,7 +55,7 @@ FourBoards = Computed Cube 4 boards calls (7 ∷ 7 ∷ 7 ∷ 7 ∷ 7 ∷ []) 1 7
 abbrev pub ThreeBoards : Type 0
 ThreeBoards =
     Computed Cube 3 (state_of (fresh_table 3) 0 0)
-    (call_with Cube 3 (turns_of (0 ∷ 0 ∷ 0 ∷ 1 ∷ 1 ∷ 2 ∷ 2 ∷ 2 ∷ [])) ∷ []) (5 ∷ []) 0 5
+    (call_with (Ok Cube) 3 (turns_of (0 ∷ 0 ∷ 0 ∷ 1 ∷ 1 ∷ 2 ∷ 2 ∷ 2 ∷ [])) ∷ []) (5 ∷ []) 0 5
 
 -- four boards on the ring, board 1 dead, nothing suspected
 unfoldable pub ring_boards : State
@@ -63,13 +65,13 @@ ring_boards = state_of (set_cell 4 (fresh_table 4) 1 status_column 1) 0 0
 abbrev pub ring_pass : List ℕ → List ℕ
 ring_pass rest = 0 ∷ 0 ∷ 0 ∷ 2 ∷ 2 ∷ 3 ∷ 3 ∷ rest
 
--- the second run has another size, and the third a schedule of three bytes
+-- the second run has another size, and the third a wiring that is none
 unfoldable pub ring_calls : List Call
 ring_calls =
-    call_with Ring 4 (turns_of (ring_pass (3 ∷ [])))
-    ∷ call_with Ring 8 (turns_of (0 ∷ 1 ∷ []))
-    ∷ call_with Ring 4 (1 ∷ 2 ∷ 1 ∷ [])
-    ∷ call_with Ring 4 (turns_of (3 ∷ 2 ∷ 0 ∷ 0 ∷ 0 ∷ 2 ∷ ring_pass (2 ∷ [])))
+    call_with (Ok Ring) 4 (turns_of (ring_pass (3 ∷ [])))
+    ∷ call_with (Ok Ring) 8 (turns_of (0 ∷ 1 ∷ []))
+    ∷ call_with (wiring_of 3) 4 (turns_of (2 ∷ 2 ∷ []))
+    ∷ call_with (Ok Ring) 4 (turns_of (3 ∷ 2 ∷ 0 ∷ 0 ∷ 0 ∷ 2 ∷ ring_pass (2 ∷ [])))
     ∷ []
 
 -- Rule Conditions are met, the four boards on the ring: three rounds close, of four tests each, and the open one has one
