@@ -102,23 +102,16 @@ fn where_cube_and_ring_cross() {
 #[test]
 fn one_dead_board_under_the_bus_master() {
     let row = |words: &str| cells("Under a bus master, one board at a time", words);
-    let sizes: Vec<usize> = row("boards")
-        .into_iter()
-        .map(|n| number(n) as usize)
-        .collect();
+    let sizes: Vec<usize> = row("boards").into_iter().map(|n| number(n) as usize).collect();
     assert_eq!(sizes.len(), 6);
     for (wiring, name) in WIRINGS {
         let of = |kind: &str| row(&format!("{name}, {kind}"));
-        let grants = sizes
-            .iter()
-            .map(|n| match vcube::one_dead(wiring, *n).expect("a size") {
-                Some(most) => most.grants.to_string(),
-                None => format!("*{}*", tried(*n)),
-            });
+        let grants = sizes.iter().map(|n| match vcube::one_dead(wiring, *n).expect("a size") {
+            Some(most) => most.grants.to_string(),
+            None => format!("*{}*", tried(*n)),
+        });
         assert_eq!(of("bus master"), grants.collect::<Vec<String>>());
-        let any_order = sizes
-            .iter()
-            .map(|n| bound_of_first_crash(wiring, *n) as u32);
+        let any_order = sizes.iter().map(|n| bound_of_first_crash(wiring, *n) as u32);
         let shown: Vec<u32> = of("any order").into_iter().map(number).collect();
         assert_eq!(shown, any_order.collect::<Vec<u32>>());
     }

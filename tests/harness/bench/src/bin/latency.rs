@@ -27,14 +27,8 @@ const SEED: u64 = 1;
 const SIZES: [usize; 9] = [2, 4, 8, 11, 16, 19, 32, 48, 64];
 
 /// The orders of turns, the first one for a table of its own.
-const ORDERS: [Order; 6] = [
-    Order::Random,
-    Order::Passes,
-    Order::Rising,
-    Order::Falling,
-    Order::Delaying,
-    Order::Driven,
-];
+const ORDERS: [Order; 6] =
+    [Order::Random, Order::Passes, Order::Rising, Order::Falling, Order::Delaying, Order::Driven];
 
 /// The sizes at which grants are counted, and the greatest at which all crashes of
 /// a round are tried.
@@ -67,10 +61,7 @@ impl Summary {
         let figures = vcube::figures(&results).expect("a number of results that is taken");
         results.sort_unstable();
         let place = (99 * results.len()).div_ceil(100) - 1;
-        Summary {
-            figures,
-            percentile: results[place],
-        }
+        Summary { figures, percentile: results[place] }
     }
 
     /// Mean and greatest, as a cell.
@@ -128,22 +119,7 @@ fn rounds_of(slowest: &[Slowest], n: usize) -> Option<u32> {
 }
 
 fn main() -> ExitCode {
-    let words: Vec<String> = std::env::args().skip(1).collect();
-    let quick = match words.iter().map(String::as_str).collect::<Vec<_>>()[..] {
-        [] => false,
-        ["--quick"] => true,
-        _ => {
-            eprintln!("usage: latency [--quick]");
-            return ExitCode::from(2);
-        }
-    };
-    match work(quick) {
-        Ok(()) => ExitCode::SUCCESS,
-        Err(error) => {
-            eprintln!("latency: {error}");
-            ExitCode::FAILURE
-        }
-    }
+    bench::run("latency", work)
 }
 
 fn work(quick: bool) -> Result<(), String> {
@@ -187,8 +163,7 @@ fn at_once<T: Send, R: Send>(items: Vec<T>, make: impl Fn(T) -> R + Sync) -> Vec
         let start = |item| scope.spawn(move || make(item));
         let threads: Vec<_> = items.into_iter().map(start).collect();
         let made = threads.into_iter().map(|thread| thread.join());
-        made.map(|made| made.expect("no plant stops the program"))
-            .collect()
+        made.map(|made| made.expect("no plant stops the program")).collect()
     })
 }
 
@@ -231,14 +206,8 @@ fn try_one_dead(quick: bool) -> Result<Vec<Option<[OneDead; 2]>>, String> {
 
 fn try_size(n: usize, quick: bool) -> Results {
     let trials = if quick { trials(n) / 20 } else { trials(n) };
-    let orders = at_once(ORDERS.to_vec(), |order| {
-        try_order(Wiring::Cube, n, order, trials)
-    });
-    Results {
-        n,
-        by_order: orders,
-        on_ring: try_order(Wiring::Ring, n, ORDERS[0], trials),
-    }
+    let orders = at_once(ORDERS.to_vec(), |order| try_order(Wiring::Cube, n, order, trials));
+    Results { n, by_order: orders, on_ring: try_order(Wiring::Ring, n, ORDERS[0], trials) }
 }
 
 /// The same dead boards for each order and wiring, as far as its trials go.
@@ -263,12 +232,7 @@ fn draw_pictures(
     grants: &[Grants],
 ) -> Result<(), String> {
     let of_size = |row: &Results| {
-        let Figures {
-            least,
-            greatest,
-            mean,
-            ..
-        } = row.by_order[0].figures;
+        let Figures { least, greatest, mean, .. } = row.by_order[0].figures;
         let (n, mean, worst_on_ring) = (row.n, mean.value(), worst_case(Wiring::Ring, row.n));
         let [cube, ring] = [0, 1].map(|wiring| or_none(rounds_of(&slowest[wiring], n), "-"));
         let (d, worst) = (dimension(n), worst_case(Wiring::Cube, n));
@@ -281,10 +245,7 @@ fn draw_pictures(
     let both = |taken: Taken| format!("{} {}", taken.grants, taken.bound);
     let of_plants = |row: &Grants| {
         let searched = row.searched.as_ref().map(|all| both(grants::nearest(all)));
-        let (searched, random) = (
-            searched.unwrap_or("- -".into()),
-            grants::nearest(&row.random),
-        );
+        let (searched, random) = (searched.unwrap_or("- -".into()), grants::nearest(&row.random));
         let (wiring, n) = (row.wiring, row.n);
         format!("\"{wiring} {n}\" {searched} {}\n", both(random))
     };
@@ -301,24 +262,16 @@ fn or_none(number: Option<u32>, none: &str) -> String {
 /// Draws these lines by a script that has them under this name.
 fn draw(path: &str, name: &str, lines: String, script: &str) -> Result<(), String> {
     let drawn = || {
-        let mut gnuplot = Command::new("gnuplot")
-            .stdin(Stdio::piped())
-            .stdout(File::create(path)?)
-            .spawn()?;
+        let mut gnuplot =
+            Command::new("gnuplot").stdin(Stdio::piped()).stdout(File::create(path)?).spawn()?;
         let text = format!("{name} << END\n{lines}END\n{script}");
-        gnuplot
-            .stdin
-            .take()
-            .expect("a pipe")
-            .write_all(text.as_bytes())?;
+        gnuplot.stdin.take().expect("a pipe").write_all(text.as_bytes())?;
         gnuplot.wait()
     };
     match drawn() {
         Ok(status) if status.success() => Ok(()),
         Ok(status) => Err(format!("{path}: gnuplot ended with {status}")),
-        Err(error) => Err(format!(
-            "{path}, by gnuplot (Debian's package gnuplot-nox): {error}"
-        )),
+        Err(error) => Err(format!("{path}: {error}")),
     }
 }
 
@@ -334,10 +287,7 @@ fn rows(results: &[Results], grants: &[Grants], one_dead: &[Option<[OneDead; 2]>
 
 fn row_of_size(row: &Results) -> String {
     let (n, worst) = (row.n, worst_case(Wiring::Cube, row.n));
-    let Summary {
-        figures,
-        percentile,
-    } = &row.by_order[0];
+    let Summary { figures, percentile } = &row.by_order[0];
     let (mean, variance) = (decimal(figures.mean), decimal(figures.variance));
     let greatest = figures.greatest;
     format!("| {n} | {mean} | {variance} | {percentile} | {greatest} | {worst} |\n")
@@ -370,7 +320,5 @@ fn rows_of_one_dead(one_dead: &[Option<[OneDead; 2]>]) -> String {
     let cells: Vec<String> = groups::SIZES.zip(one_dead).map(cells).collect();
     let height = cells.len().div_ceil(COLUMNS);
     let row = |k: usize| cells[k..].iter().step_by(height).map(String::as_str);
-    (0..height)
-        .map(|k| row(k).collect::<String>() + "|\n")
-        .collect()
+    (0..height).map(|k| row(k).collect::<String>() + "|\n").collect()
 }
