@@ -7,5 +7,7 @@ fn main() -> io::Result<()> {
     let mut input = Vec::new();
     io::stdin().lock().read_to_end(&mut input)?;
     let file = simulator::program::saved_after_run(&input);
-    io::stdout().lock().write_all(&file.unwrap_or_default())
+    let mut out = io::stdout().lock();
+    out.write_all(&file.unwrap_or_default())?;
+    out.flush()
 }
