@@ -1,5 +1,5 @@
-/* What vcube.h says of its structs and macros, of NULL with length 0, of overlap, of alignment, of numbers of any width, and of its version. What
- * the calls do is compared elsewhere, by tests/replay. This file is C and C++. */
+/* What vcube.h says of its structs and macros, of NULL with length 0, of overlap, of numbers of any width, and of its version. What the calls do,
+ * with buffers that begin anywhere, is compared elsewhere, by tests/replay. This file is C and C++. */
 
 #include "vcube.h"
 
@@ -201,208 +201,6 @@ static void overlap(void)
            "overlap: the joined totals");
 }
 
-/* Buffers of bytes may begin anywhere, results at any even address. */
-
-/* What the calls below give. It is filled with zeros first. */
-struct given {
-    uint8_t table[VCUBE_TABLE_LENGTH(64)], sheet[4 * 64], report[VCUBE_REPORT_LENGTH(64)];
-    uint8_t saved[VCUBE_SAVED_LENGTH(64)], loaded[VCUBE_TABLE_LENGTH(64)], converted[VCUBE_SAVED_LENGTH(64)];
-    uint8_t group[VCUBE_LONGEST_GROUP], assignment[VCUBE_ASSIGNMENT_LENGTH(64)];
-    uint8_t words[3][VCUBE_WORDS_LENGTH], schedule[VCUBE_SCHEDULE_LENGTH], unread[VCUBE_WORDS_LENGTH];
-    uint8_t line[VCUBE_LINE_LENGTH(64)], packed[VCUBE_PACKED_LENGTH(64)];
-    struct vcube_figures figures[2];
-    struct vcube_totals totals;
-    size_t numbers[28];
-    uint32_t tally[4];
-};
-
-/* The buffers of a call, each at that many bytes behind an address that is aligned for anything, with bytes before and behind it that must stay. */
-static uint64_t memory[6][3000];
-static size_t begin, lent;
-
-/* Lends a buffer with these contents. */
-static uint8_t *lend(const void *contents, size_t length)
-{
-    uint8_t *buffer = (uint8_t *)memory[lent++] + 8 + begin;
-
-    memset(buffer - begin - 8, ANY, begin + length + 16);
-    memcpy(buffer, contents, length);
-    return buffer;
-}
-
-/* Takes the contents of a buffer. The bytes around it are unchanged, and the call was accepted. */
-static void take(uint8_t number, const uint8_t *buffer, void *contents, size_t length)
-{
-    int unchanged = number == VCUBE_ACCEPTED;
-
-    for (size_t k = 1; k <= 8; k++)
-        unchanged &= buffer[-(ptrdiff_t)k] == ANY && buffer[length + k - 1] == ANY;
-    expect(unchanged, "alignment: a call is accepted, and writes its buffer alone");
-    memcpy(contents, buffer, length);
-    lent = 0;
-}
-
-/* A file of edition 1 of n stations, of which each third crashed and each third after these was told to leave. */
-static size_t old_file(size_t n, uint8_t *file)
-{
-    const uint8_t front[] = {VCUBE_TAG_SIZE, 0, 1, (uint8_t)n, VCUBE_TAG_TALLY, 0, 8, 0, 0, 1, 2, 0, 0, 3, 4};
-    size_t at = sizeof front;
-
-    memcpy(file, front, at);
-    for (size_t station = 0; station < n; station++, at += n + 8) {
-        const uint8_t head[] = {VCUBE_TAG_LINE, 0, (uint8_t)(n + 5), (uint8_t)station, (uint8_t)(station % 3), 1, 0, 0};
-        memcpy(file + at, head, sizeof head);
-        memset(file + at + sizeof head, 0, n);
-    }
-    return at;
-}
-
-/* The calls on a plant, after station 5 crashed; and on its table with a byte damaged. */
-static void calls_on_plant(size_t n, struct given *given)
-{
-    const size_t length = VCUBE_TABLE_LENGTH(n), saved_length = VCUBE_SAVED_LENGTH(n), group = vcube_group_length(n, 1, 2);
-    const uint8_t schedule[] = {VCUBE_KIND_CRASH, 5, VCUBE_KIND_TURN, 4, VCUBE_KIND_LATE_TURN, 0};
-    size_t *numbers = given->numbers;
-    uint32_t *tally = given->tally;
-    uint8_t *table, *other;
-    const uint8_t *entries;
-
-    table = lend(given->table, length);
-    take(vcube_fresh_table(RING, n, table, length), table, given->table, length);
-    table = lend(given->table, length);
-    other = lend(given->sheet, 2 * sizeof schedule);
-    entries = lend(schedule, sizeof schedule);
-    take(vcube_run(CUBE, n, table, length, &tally[0], &tally[1], entries, sizeof schedule, other, 2 * sizeof schedule, &numbers[0]), table,
-         given->table, length);
-    memcpy(given->sheet, other, 2 * sizeof schedule);
-    numbers[1] = VCUBE_NO_STATION;
-    table = lend(given->table, length);
-    take(vcube_drive(CUBE, n, table, length, &tally[0], &tally[1], &numbers[1], &numbers[2]), table, given->table, length);
-    other = lend(given->group, group);
-    take(vcube_group_list(n, 1, 2, other, group), other, given->group, group);
-    table = lend(given->table, length);
-    other = lend(given->assignment, VCUBE_ASSIGNMENT_LENGTH(n));
-    take(vcube_assignment(n, table, length, 4, other, VCUBE_ASSIGNMENT_LENGTH(n), &numbers[3]), other, given->assignment,
-         VCUBE_ASSIGNMENT_LENGTH(n));
-    table = lend(given->table, length);
-    take(vcube_slot(n, table, length, 4, &numbers[4], &numbers[5]), table, given->table, length);
-    table = lend(given->table, length);
-    take(vcube_row(CUBE, n, table, length, 4, &numbers[6], &numbers[7]), table, given->table, length);
-    table = lend(given->table, length);
-    take(vcube_grant(CUBE, n, table, length, numbers[1], &numbers[8]), table, given->table, length);
-    table = lend(given->table, length);
-    take(vcube_doubt_lamp(CUBE, n, table, length, &numbers[9], &numbers[10]), table, given->table, length);
-    table = lend(given->table, length);
-    take(vcube_wait(CUBE, n, table, length, &numbers[11], &numbers[12], &numbers[13], &numbers[14]), table, given->table, length);
-    table = lend(given->table, length);
-    other = lend(given->saved, saved_length);
-    take(vcube_save(n, table, length, tally[0], tally[1], other, saved_length), other, given->saved, saved_length);
-    other = lend(given->saved, saved_length);
-    take(vcube_saved_size(other, saved_length, &numbers[15]), other, given->saved, saved_length);
-    other = lend(given->saved, saved_length);
-    table = lend(given->loaded, length);
-    take(vcube_load(other, saved_length, table, length, &numbers[16], &tally[2], &tally[3]), table, given->loaded, length);
-    expect(memcmp(given->loaded, given->table, length) == 0, "alignment: the table that was saved is loaded");
-    given->loaded[0] = 4;
-    table = lend(given->loaded, length);
-    other = lend(given->report, VCUBE_REPORT_LENGTH(n));
-    take(vcube_mend(CUBE, n, table, length, other, VCUBE_REPORT_LENGTH(n), &numbers[17]), other, given->report, VCUBE_REPORT_LENGTH(n));
-    memcpy(given->loaded, table, length);
-}
-
-/* The calls without a plant: a file of edition 1, words, an input, and figures. */
-static void other_calls(size_t n, struct given *given)
-{
-    static uint8_t old[VCUBE_SAVED_LENGTH(64)];
-    static const char input[] = "8\nT 1\nC 63\nT\t2\n";
-    const size_t old_length = old_file(n, old), saved_length = VCUBE_SAVED_LENGTH(n);
-    const uint16_t results[] = {2, 4, 4, 4, 5, 5, 7, 9};
-    size_t *numbers = given->numbers;
-    const uint8_t *file, *text;
-    uint8_t *made, *words;
-    uint16_t list[3 + 8];
-
-    file = lend(old, old_length);
-    take(vcube_converted_length(file, old_length, &numbers[18]), file, old, old_length);
-    file = lend(old, old_length);
-    made = lend(given->converted, saved_length);
-    take(vcube_convert(file, old_length, made, saved_length), made, given->converted, saved_length);
-    words = lend(given->words[0], VCUBE_WORDS_LENGTH);
-    take(vcube_refusal_words(10, words, VCUBE_WORDS_LENGTH), words, given->words[0], VCUBE_WORDS_LENGTH);
-    words = lend(given->words[1], VCUBE_WORDS_LENGTH);
-    take(vcube_status_words(2, words, VCUBE_WORDS_LENGTH), words, given->words[1], VCUBE_WORDS_LENGTH);
-    words = lend(given->words[2], VCUBE_WORDS_LENGTH);
-    take(vcube_outcome_words(5, words, VCUBE_WORDS_LENGTH), words, given->words[2], VCUBE_WORDS_LENGTH);
-    text = lend(input, sizeof input - 1);
-    made = lend(given->schedule, VCUBE_SCHEDULE_LENGTH);
-    words = lend(given->unread, VCUBE_WORDS_LENGTH);
-    take(vcube_read_input(text, sizeof input - 1, made, VCUBE_SCHEDULE_LENGTH, words, VCUBE_WORDS_LENGTH, &numbers[19], &numbers[20],
-                          &numbers[21]),
-         made, given->schedule, VCUBE_SCHEDULE_LENGTH);
-    memcpy(given->unread, words, VCUBE_WORDS_LENGTH);
-    memcpy(list + begin % 4, results, sizeof results);
-    expect(vcube_figures_of_list(list + begin % 4, 8, &given->figures[0]) == VCUBE_ACCEPTED, "alignment: figures");
-    expect(vcube_figures_of_two_lists(list + begin % 4, 3, list + begin % 4 + 3, 5, &given->figures[1]) == VCUBE_ACCEPTED,
-           "alignment: figures of two lists");
-    expect(vcube_totals_of_list(list + begin % 4, 8, &given->totals) == VCUBE_ACCEPTED, "alignment: totals");
-}
-
-/* The calls of board 4 on its own line: 5 does not reply, the next one does; board 1 sends an exchange; the round closes, and 1 tells it to
- * leave. */
-static void calls_on_line(size_t n, struct given *given)
-{
-    const size_t length = VCUBE_LINE_LENGTH(n), packed_length = VCUBE_PACKED_LENGTH(n);
-    const uint8_t nobody[VCUBE_PACKED_LENGTH(64)] = {0}, two[VCUBE_PACKED_LENGTH(64)] = {1 << 2};
-    size_t *numbers = given->numbers;
-    uint8_t *line, *packed;
-
-    line = lend(given->line, length);
-    take(vcube_board_fresh(RING, n, 4, line, length), line, given->line, length);
-    line = lend(given->line, length);
-    take(vcube_board_next(RING, n, 4, line, length, &numbers[22]), line, given->line, length);
-    line = lend(given->line, length);
-    take(vcube_board_not_replied(RING, n, 4, line, length, &numbers[23]), line, given->line, length);
-    line = lend(given->line, length);
-    packed = lend(nobody, packed_length);
-    take(vcube_board_replied(RING, n, 4, line, length, packed, packed_length, &numbers[24]), line, given->line, length);
-    line = lend(given->line, length);
-    packed = lend(two, packed_length);
-    take(vcube_board_exchanged(RING, n, 4, line, length, 1, packed, packed_length), line, given->line, length);
-    line = lend(given->line, length);
-    packed = lend(nobody, packed_length);
-    take(vcube_board_row(RING, n, 4, line, length, packed, packed_length), packed, given->packed, packed_length);
-    line = lend(given->line, length);
-    take(vcube_board_next(RING, n, 4, line, length, &numbers[25]), line, given->line, length);
-    line = lend(given->line, length);
-    take(vcube_board_round_closed(RING, n, 4, line, length), line, given->line, length);
-    line = lend(given->line, length);
-    take(vcube_board_told(RING, n, 4, line, length, 1), line, given->line, length);
-}
-
-static void alignment(void)
-{
-    static struct given aligned, given;
-    static const size_t sizes[] = {6, 11, 64};
-
-    for (size_t k = 0; k < sizeof sizes / sizeof sizes[0]; k++)
-        for (begin = 0; begin < 8; begin++) {
-            struct given *filled = begin == 0 ? &aligned : &given;
-            memset(filled, 0, sizeof *filled);
-            calls_on_plant(sizes[k], filled);
-            other_calls(sizes[k], filled);
-            calls_on_line(sizes[k], filled);
-            expect(begin == 0 || memcmp(&given, &aligned, sizeof given) == 0, "alignment: the same at each address");
-        }
-    expect(aligned.assignment[0] == 1 && aligned.assignment[1] == VCUBE_DUE, "macros: VCUBE_DUE");
-    expect(aligned.saved[0] == VCUBE_TAG_OPENING && aligned.saved[3] == VCUBE_EDITION, "macros: VCUBE_EDITION");
-    expect(aligned.line[0] == VCUBE_STATUS_TOLD && aligned.line[1] == 1 && aligned.line[4] == 1, "alignment: a board's line");
-    expect(aligned.packed[0] == (1 << 2 | 1 << 5) && aligned.packed[1] == 0, "alignment: a packed row");
-    expect(aligned.numbers[22] == 5 && aligned.numbers[25] == VCUBE_NO_STATION, "alignment: a board's next test");
-    expect(aligned.numbers[23] == VCUBE_OUTCOME_NO_REPLY && aligned.numbers[24] == VCUBE_OUTCOME_EXCHANGED, "alignment: a board's turns");
-    expect(strcmp((const char *)aligned.words[0], "this board is not live") == 0, "alignment: words");
-    expect(strcmp((const char *)aligned.unread, "a tab where a space is expected") == 0, "alignment: words of an input");
-}
-
 /* The lengths that the macros give are those that the library takes, at every size. */
 
 /* Whether a call accepts just the right length. */
@@ -467,9 +265,9 @@ static void macros(void)
 {
     static uint16_t results[VCUBE_MOST_RESULTS + 1];
     const uint8_t damaged[] = {7, 1, 0, 0, VCUBE_TOLD_BY_NONE, 0, 0, 0, VCUBE_STATUS_TOLD, 1, 0, 0, VCUBE_TOLD_NOT_RECORDED, 0, 0, 0};
-    uint8_t table[sizeof damaged], report[VCUBE_REPORT_LENGTH(2)];
+    uint8_t table[sizeof damaged], report[VCUBE_REPORT_LENGTH(2)], list[VCUBE_ASSIGNMENT_LENGTH(2)], saved[VCUBE_SAVED_LENGTH(2)];
     struct vcube_totals totals;
-    size_t by, of, changes;
+    size_t by, of, changes, count;
 
     for (size_t n = 2; n <= 64; n++)
         lengths(n);
@@ -484,6 +282,11 @@ static void macros(void)
     expect(vcube_mend(CUBE, 2, table, sizeof table, report, sizeof report, &changes) == VCUBE_ACCEPTED && changes == 1 &&
                report[VCUBE_CHANGE_LENGTH - 1] == VCUBE_STATUS_CRASHED && report[VCUBE_CHANGE_LENGTH] == 0,
            "macros: VCUBE_CHANGE_LENGTH, and what byte 4 may be");
+    expect(vcube_fresh_table(CUBE, 2, table, sizeof table) == VCUBE_ACCEPTED, "a fresh table");
+    expect(vcube_assignment(2, table, sizeof table, 0, list, sizeof list, &count) == VCUBE_ACCEPTED && list[1] == VCUBE_DUE, "macros: VCUBE_DUE");
+    expect(vcube_save(2, table, sizeof table, 0, 0, saved, sizeof saved) == VCUBE_ACCEPTED && saved[0] == VCUBE_TAG_OPENING &&
+               saved[3] == VCUBE_EDITION,
+           "macros: VCUBE_EDITION");
     expect(vcube_doubt_lamp(CUBE, 2, table, sizeof table, &by, &of) == VCUBE_ACCEPTED && by == VCUBE_NO_STATION && of == VCUBE_NO_STATION,
            "macros: VCUBE_NO_STATION");
 }
@@ -515,7 +318,6 @@ int main(void)
     version();
     null_buffers();
     overlap();
-    alignment();
     macros();
     wide_numbers();
     return failures != 0;

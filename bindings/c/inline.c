@@ -1,6 +1,5 @@
-/* What vcube_plant.h has inline. On examples of docs/RULES.md: what each accessor reads, and what the calls on a plant give. Then, at each size and
- * on both wirings, each call beside that of vcube.h: both return the same and leave the same. And what is refused. What is wrong is printed; then
- * the exit status is 1. */
+/* What vcube_plant.h has inline. On a worked run of docs/RULES.md: what each accessor reads. Then, at each size and on both wirings, each call beside
+ * that of vcube.h: both return the same and leave the same. And what is refused. What is wrong is printed; then the exit status is 1. */
 
 #include "vcube_plant.h"
 
@@ -63,31 +62,6 @@ static void worked_run(void)
     expect(memory[sizeof memory - 1] == 77, "the byte behind the table stays");
 }
 
-/* RULES: Assignment entries, Bounds of the wait, Bounds of one dead board, and two stations under The bus master; the header's comment on slots. */
-static void other_examples(void)
-{
-    static const uint8_t entries[] = {1, 255, 2, 255, 3, 4, 4, 255, 5, 4, 6, 7, 7, 6};
-    uint8_t memory[VCUBE_TABLE_LENGTH(8)], list[sizeof entries];
-    struct vcube_plant plant;
-    size_t a, b, c, d;
-
-    expect(vcube_plant_fresh(&plant, CUBE, 8, memory, sizeof memory) == VCUBE_ACCEPTED, "a fresh plant");
-    expect(vcube_plant_assignment(&plant, 5, list, sizeof list, &a) == VCUBE_ACCEPTED && a == 3 && are_bytes(list, entries, sizeof entries),
-           "assignment");
-    expect(vcube_plant_enter(&plant, VCUBE_KIND_CRASH, 4, NULL) == VCUBE_ACCEPTED, "a crash");
-    expect(vcube_plant_wait(&plant, &a, &b, &c, &d) == VCUBE_ACCEPTED && a == 3 && b == 30 && c == 90 && d == 120, "wait, on the cube");
-    expect(vcube_plant_one_dead(&plant, &a, &b) == VCUBE_ACCEPTED && a == 2 && b == 34, "one dead, on the cube");
-    plant.wiring = RING;
-    expect(vcube_plant_one_dead(&plant, &a, &b) == VCUBE_ACCEPTED && a == 3 && b == 32, "one dead, on the ring");
-    expect(vcube_plant_wait(&plant, &a, &b, &c, &d) == VCUBE_ACCEPTED && a == 4 && b == 15 && c == 60 && d == 75, "wait, on the ring");
-    expect(vcube_plant_fresh(&plant, CUBE, 8, memory, sizeof memory) == VCUBE_ACCEPTED && vcube_plant_enter(&plant, 3, 0, NULL) == 0 &&
-               vcube_plant_enter(&plant, 3, 1, NULL) == 0 && vcube_plant_slot(&plant, 2, &a, &b) == VCUBE_ACCEPTED && a == 3 && b == 5,
-           "slot");
-    expect(vcube_plant_fresh(&plant, CUBE, 2, memory, sizeof memory) == VCUBE_ACCEPTED && vcube_plant_drive(&plant, &a) == VCUBE_ACCEPTED &&
-               plant.rounds == 1 && plant.tests == 2 && plant.last == 1 && a == 4,
-           "drive");
-}
-
 /* The same calls on a plant and on loose buffers. */
 static void beside(size_t wiring, size_t n)
 {
@@ -115,13 +89,15 @@ static void beside(size_t wiring, size_t n)
         expect(vcube_plant_drive(&plant, a) == vcube_drive(wiring, n, table, length, &rounds, &tests, &last, b) && a[0] == b[0], "beside: drive");
         expect(are_bytes(memory, table, length) && plant.rounds == rounds && plant.tests == tests && plant.last == last, "beside: the plant");
     }
-    expect(vcube_plant_doubt_lamp(&plant, a, a + 1) == vcube_doubt_lamp(wiring, n, table, length, b, b + 1), "beside: doubt lamp");
+    expect(vcube_plant_doubt_lamp(&plant, a, a + 1) == vcube_doubt_lamp(wiring, n, table, length, b, b + 1) && a[0] == b[0] && a[1] == b[1],
+           "beside: doubt lamp");
     expect(vcube_plant_wait(&plant, a, a + 1, a + 2, a + 3) == vcube_wait(wiring, n, table, length, b, b + 1, b + 2, b + 3) &&
                memcmp(a, b, sizeof a) == 0,
            "beside: wait");
     expect(vcube_plant_one_dead(&plant, a, a + 1) == vcube_one_dead(wiring, n, b, b + 1) && a[0] == b[0] && a[1] == b[1], "beside: one dead");
     for (k = 0; k <= n; k++) {
-        expect(vcube_plant_row(&plant, k, a, a + 1) == vcube_row(wiring, n, table, length, k, b, b + 1) && a[0] == b[0], "beside: row");
+        expect(vcube_plant_row(&plant, k, a, a + 1) == vcube_row(wiring, n, table, length, k, b, b + 1) && a[0] == b[0] && a[1] == b[1],
+               "beside: row");
         expect(vcube_plant_slot(&plant, k, a, a + 1) == vcube_slot(n, table, length, k, b, b + 1) && a[0] == b[0] && a[1] == b[1], "beside: slot");
         expect(vcube_plant_assignment(&plant, k, list[0], VCUBE_ASSIGNMENT_LENGTH(n), a) ==
                        vcube_assignment(n, table, length, k, list[1], VCUBE_ASSIGNMENT_LENGTH(n), b) &&
@@ -200,7 +176,6 @@ int main(void)
     size_t n;
 
     worked_run();
-    other_examples();
     for (n = 2; n <= MOST; n++) {
         beside(CUBE, n);
         beside(RING, n);

@@ -6,7 +6,7 @@
  * give the master's; and once the wait is over (RULES, "Bounds of the wait") each live board's own line must suspect just those who are not live.
  * So it prints one line of counts, or the first difference with its seed.
  *
- * Linked with --wrap of vcube_board_next and vcube_board_not_replied, so that a board can be given the order of groups of the early release. */
+ * Linked with early.c, by which a board can be given the order of groups of the early release. */
 
 #include "node.h"
 
@@ -65,7 +65,6 @@ struct part {
 
 struct event {
     uint64_t moment;
-    uint64_t order;
     size_t to;
     struct vcube_frame frame;
 };
@@ -106,9 +105,9 @@ static struct vcube_master_settings master_settings;
 static struct plan plans[MOST_PLANS];
 static size_t plan_count;
 
-static struct event heap[MOST_EVENTS];
+static struct event events[MOST_EVENTS];
+static size_t first_event;
 static size_t event_count;
-static uint64_t event_order;
 static uint64_t clock_now;
 static uint64_t soonest;                /* before this moment nothing happens but that frames come; 0 if it has to be looked for */
 static uint64_t cable_free;
@@ -187,109 +186,40 @@ static bool with_chance(unsigned per_cent)
     return per_cent && below(100) < per_cent;
 }
 
-/* ---- The early release ---- */
-
-/* Whether i is the first of the group of j, listed by rising number, that i does not suspect. */
-static bool is_due_early(size_t n, size_t i, const uint8_t *line, size_t distance)
-{
-    size_t half = 1;
-    const size_t j = i ^ distance;
-    size_t first;
-
-    while (2 * half <= distance)
-        half *= 2;
-    /* The group of j at this level is that half of the numbers in which i stands. */
-    first = (j ^ half) & ~(half - 1);
-    for (size_t k = first; k < first + half && k < n; k++)
-        if (k == i || !line[VCUBE_HEAD + k])
-            return j < n && k == i;
-    return false;
-}
+/* ---- The early release: early.c ---- */
 
 uint8_t __real_vcube_board_next(size_t wiring, size_t n, size_t board, const uint8_t *line, size_t line_length, size_t *tested);
-uint8_t __wrap_vcube_board_next(size_t wiring, size_t n, size_t board, const uint8_t *line, size_t line_length, size_t *tested);
-uint8_t __real_vcube_board_not_replied(size_t wiring, size_t n, size_t board, uint8_t *line, size_t line_length, size_t *outcome);
-uint8_t __wrap_vcube_board_not_replied(size_t wiring, size_t n, size_t board, uint8_t *line, size_t line_length, size_t *outcome);
+int has_early_order(size_t wiring, size_t board);
 
-static bool is_early(size_t wiring, size_t board)
+int has_early_order(size_t wiring, size_t board)
 {
     return board == scene.early && wiring == VCUBE_WIRING_CUBE;
 }
 
-uint8_t __wrap_vcube_board_next(size_t wiring, size_t n, size_t board, const uint8_t *line, size_t line_length, size_t *tested)
-{
-    const uint8_t refusal = __real_vcube_board_next(wiring, n, board, line, line_length, tested);
-
-    if (refusal || !is_early(wiring, board))
-        return refusal;
-    *tested = VCUBE_NO_STATION;
-    for (size_t distance = line[1]; distance < MOST_BOARDS; distance++)
-        if (is_due_early(n, board, line, distance)) {
-            *tested = board ^ distance;
-            break;
-        }
-    return refusal;
-}
-
-/* Where the early release finds no test any more, it finishes its pass. */
-uint8_t __wrap_vcube_board_not_replied(size_t wiring, size_t n, size_t board, uint8_t *line, size_t line_length, size_t *outcome)
-{
-    size_t tested;
-
-    if (!is_early(wiring, board) || __wrap_vcube_board_next(wiring, n, board, line, line_length, &tested) || tested != VCUBE_NO_STATION)
-        return __real_vcube_board_not_replied(wiring, n, board, line, line_length, outcome);
-    *outcome = VCUBE_OUTCOME_PASS_FINISHED;
-    for (line[1] = 1; line[1] < n; line[1] = (uint8_t)(2 * line[1]))
-        continue;
-    line[2] = 1;
-    return VCUBE_ACCEPTED;
-}
-
 /* ---- The cable ---- */
 
-static bool is_earlier(const struct event *a, const struct event *b)
-{
-    return a->moment != b->moment ? a->moment < b->moment : a->order < b->order;
-}
-
+/* The frames under way stand in the order in which they come; of those that come at one moment the first sent is first. */
 static void push_event(uint64_t moment, size_t to, const struct vcube_frame *frame)
 {
-    size_t at = event_count++;
-    struct event event;
+    size_t at;
 
-    if (at == MOST_EVENTS)
-        fail("too many frames under way");
-    event.moment = moment;
-    event.order = event_order++;
-    event.to = to;
-    event.frame = *frame;
-    while (at && is_earlier(&event, &heap[(at - 1) / 2])) {
-        heap[at] = heap[(at - 1) / 2];
-        at = (at - 1) / 2;
+    if (first_event + event_count == MOST_EVENTS) {
+        memmove(events, &events[first_event], event_count * sizeof events[0]);
+        first_event = 0;
     }
-    heap[at] = event;
+    if (event_count == MOST_EVENTS)
+        fail("too many frames under way");
+    for (at = first_event + event_count++; at > first_event && events[at - 1].moment > moment; at--)
+        events[at] = events[at - 1];
+    events[at].moment = moment;
+    events[at].to = to;
+    events[at].frame = *frame;
 }
 
 static struct event pop_event(void)
 {
-    const struct event first = heap[0];
-    const struct event last = heap[--event_count];
-    size_t at = 0;
-
-    for (;;) {
-        size_t child = 2 * at + 1;
-
-        if (child >= event_count)
-            break;
-        if (child + 1 < event_count && is_earlier(&heap[child + 1], &heap[child]))
-            child++;
-        if (!is_earlier(&heap[child], &last))
-            break;
-        heap[at] = heap[child];
-        at = child;
-    }
-    heap[at] = last;
-    return first;
+    event_count--;
+    return events[first_event++];
 }
 
 static bool is_out(void)
@@ -817,7 +747,7 @@ static uint64_t look_for_soonest(struct part **next_part, struct plan **next_pla
 static void run_until(uint64_t moment)
 {
     for (;;) {
-        const uint64_t coming = event_count ? heap[0].moment : NEVER;
+        const uint64_t coming = event_count ? events[first_event].moment : NEVER;
         struct part *next_part = NULL;
         struct plan *next_plan = NULL;
 
@@ -885,6 +815,15 @@ static void plan_at_random(enum action action)
         plans[plan_count++] = new_plan;
 }
 
+/* A scene of n boards that all keep the rules. */
+static void set_size(size_t n)
+{
+    scene.n = n;
+    scene.early = n;
+    scene.liar = n;
+    scene.undead = n;
+}
+
 static void choose(uint64_t seed)
 {
     static const size_t sizes[] = {2, 3, 4, 5, 6, 7, 8, 8, 9, 11, 12, 16, 16, 17, 23, 32, 33, 64};
@@ -895,7 +834,7 @@ static void choose(uint64_t seed)
     random_state = seed * UINT64_C(0x2545f4914f6cdd1d);
     scene.seed = seed;
     scene.wiring = seed % 2 ? VCUBE_WIRING_CUBE : VCUBE_WIRING_RING;
-    scene.n = sizes[below(sizeof sizes / sizeof sizes[0])];
+    set_size(sizes[below(sizeof sizes / sizeof sizes[0])]);
     scene.loss = losses[seed / 2 % 4];
     scene.is_lost_at_all = below(4) == 0;
     scene.doubled = below(2) ? 30 : 0;
@@ -908,9 +847,6 @@ static void choose(uint64_t seed)
     scene.stray = below(4) ? 0 : 10;
     scene.is_by_kind = below(2);
     scene.tells_sent = below(2);
-    scene.early = scene.n;
-    scene.liar = scene.n;
-    scene.undead = scene.n;
     scene.first_number = below(4) ? 0 : UINT32_MAX - (uint32_t)below(200);
     scene.entries = 100 + below(300) + 6 * scene.n;
     plan_count = 0;
@@ -935,10 +871,7 @@ static void choose(uint64_t seed)
     scene.is_brownout = seed % 17 == 0;
     if (seed % 8 == 1) {
         /* One board alone is stopped, again and again, where each frame takes long: its replies wait behind other frames. */
-        scene.n = 2 + below(3);
-        scene.early = scene.n;
-        scene.liar = scene.n;
-        scene.undead = scene.n;
+        set_size(2 + below(3));
         scene.delayed = 100;
         scene.delay = 5 * MILLISECOND;
         scene.stray = 0;
@@ -972,10 +905,8 @@ static void choose_fault(uint64_t seed)
         static const size_t sizes[] = {4, 8, 16, 5, 11, 32};
 
         scene.wiring = VCUBE_WIRING_CUBE;
-        scene.n = sizes[seed / 4 % 6];
+        set_size(sizes[seed / 4 % 6]);
         scene.early = below(scene.n);
-        scene.liar = scene.n;
-        scene.undead = scene.n;
         break;
     }
     case 1:
@@ -999,7 +930,6 @@ static void begin_run(void)
     const size_t length = VCUBE_TABLE_LENGTH(scene.n);
 
     event_count = 0;
-    event_order = 0;
     clock_now = 0;
     cable_free = 0;
     held_count = 0;
@@ -1834,11 +1764,8 @@ static void try_largest(size_t wiring)
 
     memset(&scene, 0, sizeof scene);
     scene.wiring = wiring;
-    scene.n = MOST_BOARDS;
     scene.is_by_kind = true;
-    scene.early = scene.n;
-    scene.liar = scene.n;
-    scene.undead = scene.n;
+    set_size(MOST_BOARDS);
     plan_count = 0;
     begin_run();
     parts[dead].is_killed = true;

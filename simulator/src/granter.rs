@@ -5,7 +5,6 @@ use crate::numbers::{Size, Station};
 use crate::plant::Plant;
 use crate::refusal::{number_of, Refusal};
 use crate::run::Watch;
-use crate::wiring::Wiring;
 
 /// The last granted number where no station was granted yet.
 const NONE_GRANTED: usize = 255;
@@ -76,7 +75,7 @@ fn admit(
     table: &[u8],
     last: usize,
 ) -> Result<(Plant, Option<Station>), Refusal> {
-    let plant = Plant::admit(Wiring::new(wiring)?, n, table)?;
+    let plant = Plant::admit_on(wiring, n, table)?;
     let last = last_granted(plant.size(), last)?;
     Refusal::NoneLive.when(plant.none_live())?;
     Ok((plant, last))

@@ -57,12 +57,14 @@ pub fn answers_from(
     size.distances_from(next).filter_map(answer)
 }
 
-/// The least due distance of station i not below `next`, and the station that
-/// stands there.
-pub fn least_due(size: Size, i: Station, row: Row, next: Distance) -> Option<(Distance, Station)> {
-    let due = |(m, j, answer)| match answer {
-        DueOrAhead::Due => Some((m, j)),
-        DueOrAhead::Ahead(_) => None,
-    };
-    answers_from(size, i, row, next).find_map(due)
+/// The due distances of station i not below `next`, ascending, each with the
+/// station that stands there.
+pub fn due_from(
+    size: Size,
+    i: Station,
+    row: Row,
+    next: Distance,
+) -> impl Iterator<Item = (Distance, Station)> {
+    let due = |(m, j, answer)| (answer == DueOrAhead::Due).then_some((m, j));
+    answers_from(size, i, row, next).filter_map(due)
 }

@@ -2,22 +2,15 @@
 
 use crate::numbers::Station;
 use crate::plant::Plant;
-use crate::refusal::Refusal;
-use crate::wiring::Wiring;
 
 /// The first pair of a live station and another live one that it suspects, if
 /// there is one: refusals 24 and 1 to 4. Gives the number and the pair, which is
 /// none where the call is refused.
 pub fn doubt_lamp(wiring: usize, n: usize, table: &[u8]) -> (u8, Option<(u8, u8)>) {
-    match admit(wiring, n, table) {
+    match Plant::admit_on(wiring, n, table) {
         Ok(plant) => (0, all_pairs(&plant).first().copied()),
         Err(refusal) => (refusal.number(), None),
     }
-}
-
-/// Refusals 24 and 1 to 4.
-fn admit(wiring: usize, n: usize, table: &[u8]) -> Result<Plant, Refusal> {
-    Plant::admit(Wiring::new(wiring)?, n, table)
 }
 
 /// All pairs: the live stations in rising order, each row in rising order.

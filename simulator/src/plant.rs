@@ -23,6 +23,11 @@ impl Plant {
         }
     }
 
+    /// The same as `admit`, by refusal 24 of the wiring's number before.
+    pub fn admit_on(wiring: usize, n: usize, table: &[u8]) -> Result<Plant, Refusal> {
+        Plant::admit(Wiring::new(wiring)?, n, table)
+    }
+
     /// Judges the bytes of a table by refusals 1 to 4 and decodes it.
     pub fn admit(wiring: Wiring, n: usize, table: &[u8]) -> Result<Plant, Refusal> {
         let size = Size::new(n)?;

@@ -59,14 +59,13 @@ fn show_line(input: &[u8], line: usize) -> String {
     }
 }
 
-/// The saved plant after the run of this input on the cube. Where a line cannot be read or
-/// the run is refused: the last line that the program prints.
-pub fn saved_after_run(input: &[u8]) -> Result<Vec<u8>, String> {
-    let ran = run_from_fresh(Wiring::Cube, input).map_err(|(line, _)| print_unread(line))?;
-    match saved_plant(ran.n, &ran.table, (ran.answer.rounds, ran.answer.tests)) {
-        Ok(file) if ran.answer.number == 0 => Ok(file),
-        _ => Err(print_last_line(&ran.answer)),
-    }
+/// The saved plant after the run of this input on the cube, if each line can be read and the
+/// run is not refused.
+pub fn saved_after_run(input: &[u8]) -> Option<Vec<u8>> {
+    let ran = run_from_fresh(Wiring::Cube, input).ok()?;
+    let tally = (ran.answer.rounds, ran.answer.tests);
+    let file = saved_plant(ran.n, &ran.table, tally).ok()?;
+    (ran.answer.number == 0).then_some(file)
 }
 
 /// Runs an input on a fresh table with zero tallies. Where a line cannot be read: its

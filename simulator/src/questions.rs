@@ -102,13 +102,12 @@ fn admit_row(
     table: &[u8],
     station: u8,
 ) -> Result<(Size, Station), Refusal> {
-    let size = Plant::admit(Wiring::new(wiring)?, n, table)?.size();
+    let size = Plant::admit_on(wiring, n, table)?.size();
     let i = size.station(station)?;
     Ok((size, i))
 }
 
 /// The first of refusals 24 and 1 to 4 that the table meets, or 0.
 pub fn check_table(wiring: usize, n: usize, table: &[u8]) -> u8 {
-    let admitted = Wiring::new(wiring).and_then(|wiring| Plant::admit(wiring, n, table));
-    number_of(&admitted)
+    number_of(&Plant::admit_on(wiring, n, table))
 }

@@ -5,7 +5,6 @@ use crate::numbers::{Distance, Station};
 use crate::outcome::Outcome;
 use crate::plant::Plant;
 use crate::refusal::Refusal;
-use crate::wiring::Wiring;
 
 /// What a run answers.
 #[derive(Clone, Copy, Debug, PartialEq, Eq)]
@@ -87,7 +86,7 @@ fn admit_run(
     schedule: &[u8],
     sheet: &[u8],
 ) -> Result<Plant, Refusal> {
-    let plant = Plant::admit(Wiring::new(wiring)?, n, table)?;
+    let plant = Plant::admit_on(wiring, n, table)?;
     Refusal::ScheduleLength.when(!schedule.len().is_multiple_of(2))?;
     Refusal::SheetLength.when(sheet.len() != 2 * schedule.len())?;
     Ok(plant)

@@ -1,6 +1,6 @@
 //! The sheet program: from its arguments to the printed text.
 
-use crate::groups::{answers_from, DueOrAhead};
+use crate::groups::{answers_from, due_from, DueOrAhead};
 use crate::line::Row;
 use crate::numbers::{Distance, Size, Station};
 use crate::one_dead::{self, OneDead};
@@ -128,11 +128,7 @@ impl Plant {
 
 /// The boards that a board with this row tests, in order.
 pub(crate) fn tested(size: Size, board: Station, row: Row) -> impl Iterator<Item = Station> {
-    let due = |(_, other, answer)| match answer {
-        DueOrAhead::Due => Some(other),
-        DueOrAhead::Ahead(_) => None,
-    };
-    answers_from(size, board, row, Distance::FIRST).filter_map(due)
+    due_from(size, board, row, Distance::FIRST).map(|(_, other)| other)
 }
 
 /// The rounds until one more dead board is known everywhere, at most: the one

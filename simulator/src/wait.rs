@@ -4,7 +4,6 @@
 use crate::groups::group;
 use crate::numbers::{Level, Size, Station};
 use crate::plant::Plant;
-use crate::refusal::Refusal;
 use crate::wiring::Wiring;
 
 /// What the question for the wait answers.
@@ -20,17 +19,13 @@ pub struct Wait {
 
 /// Wait: refusals 24 and 1 to 4.
 pub fn wait(wiring: usize, n: usize, table: &[u8]) -> Wait {
-    match admit(wiring, n, table) {
+    match Plant::admit_on(wiring, n, table) {
         Err(refusal) => Wait {
             number: refusal.number(),
             ..Wait::default()
         },
         Ok(plant) => of_plant(&plant),
     }
-}
-
-fn admit(wiring: usize, n: usize, table: &[u8]) -> Result<Plant, Refusal> {
-    Plant::admit(Wiring::new(wiring)?, n, table)
 }
 
 fn of_plant(plant: &Plant) -> Wait {

@@ -1,6 +1,6 @@
 //! The wirings: who tests whom in a pass, and how far a test takes the pass.
 
-use crate::groups::least_due;
+use crate::groups::due_from;
 use crate::line::Line;
 use crate::numbers::{Distance, Size, Station};
 use crate::outcome::Outcome;
@@ -45,7 +45,7 @@ impl Wiring {
     /// station that stands there.
     pub fn next_test(self, size: Size, i: Station, line: &Line) -> Option<(Distance, Station)> {
         match self {
-            Wiring::Cube => least_due(size, i, line.row, line.next),
+            Wiring::Cube => due_from(size, i, line.row, line.next).next(),
             Wiring::Ring => Some((line.next, size.station_after(i, line.next)?)),
         }
     }

@@ -1,4 +1,4 @@
-/* Makes the calls of a record (tests/harness/compare/src/record.rs says how they stand there) by whatever is linked behind include/vcube.h, and
+/* Makes the calls of a record (tests/harness/shared/src/record.rs says how they stand there) by whatever is linked behind include/vcube.h, and
  * compares number and buffers with what the record says.
  *
  * Usage: replay FILE [MOST_STATIONS MOST_RESULTS]
@@ -9,7 +9,8 @@
  * MOST_RESULTS the library behind the header was built for so many only: calls on more are left out.
  *
  * On x86-64 Linux each buffer stands right before or right behind a page that nobody may touch, by turns, and a buffer that the call may only
- * read cannot be written: whoever does is caught, and call and argument are named. Elsewhere a buffer stands between guard bytes.
+ * read cannot be written: whoever does is caught, and call and argument are named. Elsewhere a buffer stands between guard bytes, of every other
+ * eight calls at other addresses than multiples of 8: bytes may begin anywhere, results at any even address.
  *
  * Exit status: 0 all calls give what they must; 1 one does not; 2 the record cannot be read. */
 #if defined(__x86_64__) && defined(__linux__) && !defined(__SANITIZE_ADDRESS__)
@@ -286,17 +287,19 @@ static void prepare(void) {}
 static void lend(size_t k)
 {
     struct argument *argument = &call.arguments[k];
-    uint8_t *whole = malloc(argument->lent_length + 2 * GUARD + 1);
+    const size_t width = width_here(argument->form), shift = calls / 8 % 2 && width <= 2 ? calls % 8 / width * width : 0;
+    uint8_t *whole = malloc(argument->lent_length + 2 * GUARD + shift + 1);
 
     if (whole == NULL)
         unreadable("no memory");
-    argument->guard_before = argument->guard_behind = GUARD;
-    argument->seen = argument->lent = whole + GUARD;
+    argument->guard_before = GUARD + shift;
+    argument->guard_behind = GUARD;
+    argument->seen = argument->lent = whole + argument->guard_before;
 }
 
 static void give_back(size_t k)
 {
-    free(call.arguments[k].seen - GUARD);
+    free(call.arguments[k].seen - call.arguments[k].guard_before);
 }
 #endif
 

@@ -1,4 +1,4 @@
-// Makes the calls that tests/compare recorded (tests/harness/compare/src/record.rs says how they stand in the file) by the module
+// Makes the calls that tests/compare recorded (tests/harness/shared/src/record.rs says how they stand in the file) by the module
 // target/wasm/vcube.wasm, in node or in a browser, and compares number, buffers and guard bytes with what the simulator gives.
 
 const GUARD = 16;

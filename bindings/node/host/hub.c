@@ -39,7 +39,6 @@
 /* A frame on its way to one receiver. */
 struct waiting {
     uint64_t due;
-    uint64_t number;
     size_t to;
     size_t length;
     uint8_t bytes[LONGEST];
@@ -56,8 +55,8 @@ struct settings {
 
 static struct sockaddr_in joined[MOST_JOINED];
 static size_t joined_count;
-static struct waiting heap[MOST_WAITING];
-static size_t heap_count;
+static struct waiting waiting[MOST_WAITING];
+static size_t first_waiting, waiting_count;
 static volatile sig_atomic_t is_out, is_over;
 
 static void on_signal(int number)
@@ -85,44 +84,26 @@ static bool is_drawn(uint32_t of_1000, uint64_t seed, uint64_t frame, uint64_t u
     return drawn(seed, frame, use) % 1000 < of_1000;
 }
 
-static bool is_before(const struct waiting *one, const struct waiting *other)
-{
-    return one->due < other->due || (one->due == other->due && one->number < other->number);
-}
-
+/* Behind all that are due before it, or with it. */
 static void put(const struct waiting *it)
 {
-    size_t place = heap_count;
+    size_t place;
 
-    if (heap_count == MOST_WAITING)
-        return;
-    heap_count++;
-    while (place > 0 && is_before(it, &heap[(place - 1) / 2])) {
-        heap[place] = heap[(place - 1) / 2];
-        place = (place - 1) / 2;
+    if (first_waiting + waiting_count == MOST_WAITING) {
+        memmove(waiting, &waiting[first_waiting], waiting_count * sizeof waiting[0]);
+        first_waiting = 0;
     }
-    heap[place] = *it;
+    if (waiting_count == MOST_WAITING)
+        return;
+    for (place = first_waiting + waiting_count++; place > first_waiting && waiting[place - 1].due > it->due; place--)
+        waiting[place] = waiting[place - 1];
+    waiting[place] = *it;
 }
 
 static struct waiting take(void)
 {
-    const struct waiting first = heap[0], last = heap[--heap_count];
-    size_t place = 0;
-
-    for (;;) {
-        size_t below = 2 * place + 1;
-
-        if (below >= heap_count)
-            break;
-        if (below + 1 < heap_count && is_before(&heap[below + 1], &heap[below]))
-            below++;
-        if (!is_before(&heap[below], &last))
-            break;
-        heap[place] = heap[below];
-        place = below;
-    }
-    heap[place] = last;
-    return first;
+    waiting_count--;
+    return waiting[first_waiting++];
 }
 
 static void join(int socket_, const struct sockaddr_in *who)
@@ -164,7 +145,7 @@ static uint64_t due_of(const struct settings *settings, const uint8_t *bytes, si
 /* A frame has come: it is put on its way to all but its sender. Gives when it is to go on. */
 static uint64_t pass_on(const struct settings *settings, const uint8_t *bytes, size_t length, const struct sockaddr_in *from)
 {
-    static uint64_t frames, numbers;
+    static uint64_t frames;
     const uint64_t frame = frames++;
     const uint64_t due = due_of(settings, bytes, length);
     size_t to;
@@ -184,7 +165,6 @@ static uint64_t pass_on(const struct settings *settings, const uint8_t *bytes, s
             it.due = due;
             if (settings->jitter > 0)
                 it.due += drawn(settings->seed, frame, 4 * to + 3 + 1000 * (uint64_t)copy) % (1000 * (uint64_t)settings->jitter + 1);
-            it.number = numbers++;
             put(&it);
         }
     }
@@ -193,7 +173,7 @@ static uint64_t pass_on(const struct settings *settings, const uint8_t *bytes, s
 
 static void send_due(int socket_)
 {
-    while (heap_count > 0 && heap[0].due <= host_clock()) {
+    while (waiting_count > 0 && waiting[first_waiting].due <= host_clock()) {
         const struct waiting it = take();
 
         if (is_out)
@@ -231,8 +211,8 @@ static void wait_for_more(struct host_pauses *pauses, int socket_)
     const uint64_t time = host_clock();
     uint64_t pause = 1000000;
 
-    if (heap_count > 0)
-        pause = heap[0].due > time ? heap[0].due - time : 0;
+    if (waiting_count > 0)
+        pause = waiting[first_waiting].due > time ? waiting[first_waiting].due - time : 0;
     host_wait(pauses, socket_, pause);
 }
 

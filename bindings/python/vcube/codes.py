@@ -32,7 +32,15 @@ class Kind(IntEnum):
     CRASH = 3
 
 
-class Status(IntEnum):
+class Worded(IntEnum):
+    """A number that the library has words for."""
+
+    @property
+    def words(self) -> str:
+        return _library.words(f'vcube_{type(self).__name__.lower()}_words', self)
+
+
+class Status(Worded):
     """The status of a board. `words` says it to people."""
 
     LIVE = 0
@@ -40,12 +48,8 @@ class Status(IntEnum):
     TOLD = 2
     ALONE = 3
 
-    @property
-    def words(self) -> str:
-        return _library.words('vcube_status_words', self)
 
-
-class Outcome(IntEnum):
+class Outcome(Worded):
     """What came of an entry. `words` says it to people."""
 
     PASS_FINISHED = 0
@@ -55,12 +59,8 @@ class Outcome(IntEnum):
     CRASH = 4
     TESTED_TOLD = 5
 
-    @property
-    def words(self) -> str:
-        return _library.words('vcube_outcome_words', self)
 
-
-class Refusal(IntEnum):
+class Refusal(Worded):
     """The error codes. `words` says it to people."""
 
     SIZE_OUT_OF_RANGE = 1
@@ -88,10 +88,6 @@ class Refusal(IntEnum):
     REPORT_TOO_SHORT = 23
     NO_SUCH_WIRING = 24
     LINE_LENGTH = 25
-
-    @property
-    def words(self) -> str:
-        return _library.words('vcube_refusal_words', self)
 
 
 class Refused(ValueError):

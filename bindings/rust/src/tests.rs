@@ -195,19 +195,6 @@ fn lengths_take_any_numbers() {
 }
 
 #[test]
-fn the_group_length_counts_the_numbers_below_n() {
-    for n in 2..=64 {
-        for (station, level) in
-            (0..n).flat_map(|station| (1..=6).map(move |level| (station, level)))
-        {
-            let half = 1 << (level - 1);
-            let members = (half..2 * half).filter(|distance| station ^ distance < n);
-            assert_eq!(group_length(n, Station(station), Level(level)), members.count());
-        }
-    }
-}
-
-#[test]
 fn an_entry_for_a_station_above_255_is_of_no_station() {
     for station in [255, 256, 261, usize::MAX] {
         let (kind, station) = (Kind::Crash, Station(station));
@@ -228,17 +215,8 @@ fn lines_of_a_sheet_end_at_what_is_no_line() {
 }
 
 #[test]
-fn a_line_of_the_sheet_says_who_ceased_to_be_live() {
-    let ceased = |bytes| {
-        let line = SheetLine::from_bytes(bytes).expect("a line");
-        line.ceased().map(|(station, status)| (station.0, status)).collect::<Vec<_>>()
-    };
-    assert_eq!(ceased([0, 255, 0, 0]), []);
-    assert_eq!(ceased([0, 1, 3, 0]), []);
-    assert_eq!(ceased([1, 0, 2, 2]), [(1, Status::Told)]);
-    assert_eq!(ceased([0, 1, 3, 3]), [(0, Status::Alone)]);
-    assert_eq!(ceased([1, 255, 4, 1]), [(1, Status::Crashed)]);
-    assert_eq!(ceased([0, 1, 5, 0]), [(1, Status::Told)]);
+fn changes_end_with_the_report() {
+    assert_eq!(changes(4, &[0; 7], 2).count(), 1);
 }
 
 #[test]
@@ -269,42 +247,6 @@ fn a_plant_is_of_two_to_64_stations() {
             assert_eq!(refused, Err(Refusal::TableLength));
         }
     }
-}
-
-#[test]
-fn a_change_names_the_byte_of_its_line() {
-    let report: Vec<u8> = (0..20).flat_map(|offset| [0, offset, 9, 1]).collect();
-    let bytes: Vec<_> =
-        changes(4, &report, 20).map(|change| (change.line.0, change.byte)).collect();
-    let head = [
-        LineByte::Status,
-        LineByte::NextDistance,
-        LineByte::PassFinished,
-        LineByte::TestsMade,
-        LineByte::ToldBy,
-        LineByte::RoundsAgo,
-    ];
-    let line = head.into_iter().chain((0..4).map(Station).map(LineByte::About));
-    let lines = (0..2).flat_map(|station| line.clone().map(move |byte| (station, byte)));
-    assert!(lines.eq(bytes));
-    // An offset has two bytes, the high one first.
-    let change = changes(64, &[1, 30, 0, 0], 1).next().expect("a change");
-    assert_eq!((change.line, change.byte), (Station(4), LineByte::About(Station(0))));
-    assert_eq!(changes(4, &report[..7], 2).count(), 1);
-}
-
-#[test]
-fn a_line_says_who_told_the_station() {
-    let mut table = [0; table_length(2)];
-    assert_eq!(fresh_table(Wiring::Cube, 2, &mut table), Ok(()));
-    let mut said = |head: [u8; HEAD]| {
-        table[8..14].copy_from_slice(&head);
-        told_by(Wiring::Cube, 2, &table, Station(1))
-    };
-    assert_eq!(said([1, 1, 0, 0, 255, 9]), Ok(ToldBy::Nobody));
-    assert_eq!(said([2, 1, 0, 0, 254, 9]), Ok(ToldBy::NotRecorded));
-    assert_eq!(said([2, 1, 0, 0, 0, 9]), Ok(ToldBy::Station(Station(0))));
-    assert_eq!(said([2, 1, 0, 0, 1, 9]), Err(Refusal::LineRule));
 }
 
 #[test]

@@ -21,16 +21,18 @@ abbrev pub behind : ℕ → ℕ → ℕ
 behind n b = board_at n b 1
 
 -- the going round begins at board b, or at n where that is board 0
-abbrev pub BeginsAt : ℕ → ℕ → ℕ → Type 0
-BeginsAt n b begins = (begins ≡ b) ⊎ ((begins ≡ n) × (b ≡ 0))
+pub record BeginsAt (n b begins : ℕ) : Type 0 where
+  pub below : b < n
+  pub place : (begins ≡ b) ⊎ ((begins ≡ n) × (b ≡ 0))
 
 -- wherever it begins, it is at some board
-pub some-board : (n begins : ℕ) → 0 < n → begins ≤ n → (f : ℕ) × (f < n) × BeginsAt n f begins
+pub some-board : (n begins : ℕ) → 0 < n → begins ≤ n → (f : ℕ) × BeginsAt n f begins
 some-board n begins pos le =
-    by_cases (dec_lt begins n) (λ l. (begins, l, inl refl)) (λ l. (0, pos, inr (omega arith, refl)))
+    by_cases (dec_lt begins n) (λ l. (begins, record { below = l; place = inl refl }))
+    (λ l. (0, record { below = pos; place = inr (omega arith, refl) }))
 
 -- i + m, going round
-pub wrap : (n i m : ℕ) → i < n → m ≤ n → ((i + m) % n ≡ i + m) × (i + m < n) ⊎ ((i + m) % n ≡ i + m - n) × (n ≤ i + m)
+wrap : (n i m : ℕ) → i < n → m ≤ n → ((i + m) % n ≡ i + m) × (i + m < n) ⊎ ((i + m) % n ≡ i + m - n) × (n ≤ i + m)
 wrap n i m h le = by_cases (dec_lt (i + m) n) (λ l. inl (place_before n (i + m) l, l))
     (λ l. inr (place_behind n (i + m) (omega arith) (omega arith), omega arith))
 
@@ -53,28 +55,28 @@ next-one n i j hi hj e = pick (wrap n i 1 hi (omega arith)) (wrap n j 1 hj (omeg
     pick (inr a) (inr b) = omega (arith, a.0, b.0)
 
 -- the places of the circle that begins at b
-module _ (n b begins : ℕ) (hb : b < n) (from : BeginsAt n b begins) where
+module _ {n b begins : ℕ} (from : BeginsAt n b begins) where
   abbrev place : ℕ → ℕ
   place i = stations_before n begins i
 
   -- by numbers: from b on, and then from 0 on
   place-is : (i : ℕ) → i < n → (b ≤ i → place i + b ≡ i) × (i < b → place i + b ≡ i + n)
   unfolding stations_before
-  place-is i h = pick from
+  place-is i h = pick from.place
     where
-      pick : BeginsAt n b begins → (b ≤ i → place i + b ≡ i) × (i < b → place i + b ≡ i + n)
+      pick : (begins ≡ b) ⊎ ((begins ≡ n) × (b ≡ 0)) → (b ≤ i → place i + b ≡ i) × (i < b → place i + b ≡ i + n)
       pick (inl e) = rw e (λ l. rw (le-ltb i b l) (omega arith), λ l. rw (lt-ltb i b l) (omega arith))
       pick (inr e) = rw e.0 (λ l. rw (lt-ltb i n h) (omega (arith, e.1)), λ l. absurd (omega (arith, e.1)))
 
   pub begins-fits : begins ≤ n
-  begins-fits = pick from
+  begins-fits = pick from.place
     where
-      pick : BeginsAt n b begins → begins ≤ n
+      pick : (begins ≡ b) ⊎ ((begins ≡ n) × (b ≡ 0)) → begins ≤ n
       pick (inl e) = omega arith
       pick (inr e) = omega (arith, e.0)
 
   pub place-of : (q : ℕ) → q < n → place (board_at n b q) ≡ q
-  place-of q h = pick (wrap n b q hb (omega arith))
+  place-of q h = pick (wrap n b q from.below (omega arith))
     where
       pick : ((b + q) % n ≡ b + q) × (b + q < n) ⊎ ((b + q) % n ≡ b + q - n) × (n ≤ b + q) → place (board_at n b q) ≡ q
       pick (inl w) = rw w.0 (omega (arith, (place-is (b + q) w.1).0 (omega arith)))
@@ -82,7 +84,7 @@ module _ (n b begins : ℕ) (hb : b < n) (from : BeginsAt n b begins) where
 
   -- b stands at place 0 and no other board does; the next board stands at the next place
   pub place-zero : place b ≡ 0
-  place-zero = omega (arith, (place-is b hb).0 (omega arith))
+  place-zero = omega (arith, (place-is b from.below).0 (omega arith))
 
   pub place-other : (i : ℕ) → i < n → i ≢ b → 1 ≤ place i
   place-other i h d = by_cases (dec_lt i b) (λ l. omega (arith, (place-is i h).1 l)) (λ l. omega (arith, (place-is i h).0 (omega arith)))
@@ -167,8 +169,8 @@ module _ (n b : ℕ) (hb : b < n) (two : 2 ≤ n) where
   begins-at top = rw (ne_eqb (before n b) no_grant (omega (arith, before-below))) (pick before-is)
     where
       pick : ((b ≡ 0) × (before n b ≡ n - 1)) ⊎ ((1 ≤ b) × (before n b ≡ b - 1)) → BeginsAt n b (before n b + 1)
-      pick (inl e) = inr (omega (arith, e.1), e.0)
-      pick (inr e) = inl (omega (arith, e))
+      pick (inl e) = record { below = hb; place = inr (omega (arith, e.1), e.0) }
+      pick (inr e) = record { below = hb; place = inl (omega (arith, e)) }
 
 -- of three boards or more those before and behind b are two
 pub both-apart : (n b : ℕ) → b < n → 3 ≤ n → before n b ≢ behind n b

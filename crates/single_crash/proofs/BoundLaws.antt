@@ -21,7 +21,8 @@ use Rattle.single_crash.proofs.CubeKnown.{cube-in-grants, cube-in-rounds}
 abbrev Known : Wiring → ℕ → OneDead → Type 0
 Known w n b = KnownInRounds w n b.rounds × KnownInGrants w n b.grants
 
-given-some : (w : Wiring) (n : ℕ) (test : Bool) (a b : OneDead) → (test ≡ true → Known w n a) → (if test then Some a else None) ≡ Some b → Known w n b
+given-some : (w : Wiring) (n : ℕ) (test : Bool) (a b : OneDead) → (test ≡ true → Known w n a) → (if test then Some a else None) ≡ Some b
+    → Known w n b
 given-some w n true a b known e = let same : a ≡ b = cc in subst (Known w n) same (known refl)
 given-some w n false a b known e = absurd cc
 

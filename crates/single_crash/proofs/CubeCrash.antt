@@ -27,13 +27,13 @@ use Rattle.granter.specs.Grant.{waits}
 use Rattle.granter.specs.Drive.{Stand, granted_at}
 use Rattle.granter.specs.Fairness.{stations_before}
 use Rattle.single_crash.specs.Sweeps.{turns_made}
-use Rattle.single_crash.proofs.Running.{Crew, Running, chosen, going}
-use Rattle.single_crash.proofs.Crashing.{everyone, all_but}
+use Rattle.single_crash.proofs.Running.{Running, chosen, going, live-waits}
+use Rattle.single_crash.proofs.Crashing.{everyone, all_but, but-apart}
 use Rattle.single_crash.proofs.Passes.{turns_left}
 use Rattle.single_crash.proofs.CubePace.{Cubic, OnPace}
 use Rattle.single_crash.proofs.CubeWays.{Multiple, by_distance, distance-some, distance-beside, multiple-above}
-use Rattle.single_crash.proofs.CubeRun.{cube-crew, four}
-use Rattle.single_crash.proofs.CubeStages.{left_with, but-apart}
+use Rattle.single_crash.proofs.CubeRun.{four}
+use Rattle.single_crash.proofs.CubeStages.{left_with}
 
 -- how many grants are enough
 abbrev pub enough : ℕ → ℕ → ℕ
@@ -66,13 +66,10 @@ pub record Cut (n d b : ℕ) (t : List ℕ) : Type 0 where
   pub begun : 1 ≤ s → (z : ℕ) → z < n → station_at z 1 ≡ b → 1 ≤ tests_made n t z
   pub small : 1 ≤ s → left_with n d b s t ≤ enough n d
 
-module _ (n d b : ℕ) (c : Cubic n d) (hb : b < n) (begins : ℕ) (q : Stand) (r : Running Cube n everyone begins q)
+module _ {n d : ℕ} (b : ℕ) (c : Cubic n d) (hb : b < n) {begins : ℕ} {q : Stand} (r : Running Cube n everyone begins q)
     (pace : (i : ℕ) → i < n → OnPace n d q.state.table i) where
   abbrev t : List ℕ
   t = q.state.table
-
-  abbrev crew : Crew Cube n everyone
-  crew = cube-crew n d b everyone c (λ x h e. refl)
 
   abbrev sweep : ℕ
   sweep = r.sweep.sweep
@@ -89,16 +86,15 @@ module _ (n d b : ℕ) (c : Cubic n d) (hb : b < n) (begins : ℕ) (q : Stand) (
 
   sweep-most : sweep ≤ suc d
   sweep-most =
-      let at = chosen Cube n everyone crew begins q r in
-      let zero = going Cube n everyone crew begins q r in
+      let at = chosen r in
+      let zero = going r in
       omega (arith, waiting-turns (granted_at n q) at.0 at.1, zero, ((pace (granted_at n q) at.0).going zero).0)
 
   turns-low : (i : ℕ) → i < n → sweep ≤ suc (turns_made n t i)
-  unfolding waits
   turns-low i h =
       by_cases (ℕ_discrete (finished n t i) 1)
       (λ f. omega (arith, sweep-most, f, (pace i h).ended f))
-      (λ f. waiting-turns i h (rw (r.plain.lives i h, ne_eqb (finished n t i) 1 f) refl))
+      (λ f. waiting-turns i h (live-waits r i h refl (unfinished-tests i h f)))
 
   -- who has made a turn has made a test
   some-test : (i : ℕ) → i < n → 1 ≤ turns_made n t i → 1 ≤ tests_made n t i
@@ -207,7 +203,7 @@ module _ (n d b : ℕ) (c : Cubic n d) (hb : b < n) (begins : ℕ) (q : Stand) (
         let few = few-left h (d + 1) (λ i k q. omega (arith, turns-low i k, e)) in
         let more : (n - 1) * (d + 2) ≡ (n - 1) * (d + 1) + (n - 1) =
         let f : suc (d + 1) ≡ d + 2 = omega arith in rw f at (mul-suc (n - 1) (d + 1)) in
-        omega (arith, four n d c);
+        omega (arith, four c);
   }
 
   pub cut : Cut n d b t

@@ -10,31 +10,27 @@ use native.Mathlib.Decide.{ℕ_discrete, dec_lt}
 use native.Mathlib.Omega.{arith}
 use Rattle.lists.proofs.BoolLaws.{by_bool}
 use Rattle.lists.proofs.SumLaws.{sum_by}
-use Rattle.table.specs.Table.{head, stride, cell, next_column, finished_column, tests_column, tests_made, suspects}
+use Rattle.table.specs.Table.{head, tests_made, suspects}
 use Rattle.table.specs.Rules.{round_over}
-use Rattle.table.proofs.CellLaws.{accepted-line}
 use Rattle.table.specs.declared.wiring.Wiring.TheVariants.{Cube}
 use Rattle.table.proofs.Levels.{level-above}
-use Rattle.plant.specs.Turn.{kind_turn, turn, crash}
-use Rattle.plant.proofs.RoundLaws.{Reset}
+use Rattle.plant.specs.Turn.{crash}
 use Rattle.station.specs.Groups.{distance}
 use Rattle.slots.proofs.Counts.{sum-le}
 use Rattle.granter.specs.Grant.{waits}
 use Rattle.granter.specs.Drive.{Stand, granted_at, grant_turn, after_grants}
-use Rattle.granter.proofs.GrantLaws.{Grantable, grantable, waits-parts}
-use Rattle.detection.proofs.DetectionClaim.{first_round}
-use Rattle.detection.proofs.TurnEffect.{Plain}
+use Rattle.granter.proofs.GrantLaws.{waits-parts}
 use Rattle.single_crash.specs.Sweeps.{turns_made}
 use Rattle.single_crash.specs.Setting.{Sound, crash_at, behind_crash, KnownDead}
 use Rattle.single_crash.specs.Cube.{CubeInGrants, CubeInRounds}
-use Rattle.single_crash.proofs.Running.{Crew, Running, closes, goes_on, begin}
-use Rattle.single_crash.proofs.Crashing.{everyone, all_but, crash-same, crash-closes, crash-goes_on, known-dead}
+use Rattle.single_crash.proofs.Running.{Running, SamePass, by_round}
+use Rattle.single_crash.proofs.Crashing.{all_but, sound-fresh, sound-run, crash-same, crash-closes, crash-goes_on, known-dead, crash-pass}
 use Rattle.single_crash.proofs.Passes.{turns_left}
 use Rattle.single_crash.proofs.CubePace.{Cubic, OnPace, pace-start, pace-same, pace-paced}
 use Rattle.single_crash.proofs.CubeWays.{by_distance, distance-some, beside-of, digits-all}
-use Rattle.single_crash.proofs.CubeRun.{cube-crew, four}
-use Rattle.single_crash.proofs.CubeWhole.{Whole, full_crew, whole-after}
-use Rattle.single_crash.proofs.CubeStages.{turns_to, left_to, left_with, but-others, Spread, Gather, AllAware, spread-less, spread-on}
+use Rattle.single_crash.proofs.CubeRun.{four}
+use Rattle.single_crash.proofs.CubeWhole.{Whole, whole-after}
+use Rattle.single_crash.proofs.CubeStages.{turns_to, left_to, left_with, but-crew, Spread, Gather, AllAware, spread-less, spread-on}
 use Rattle.single_crash.proofs.CubeStages.{spread-over, spread-left, gather-less, gather-on, gather-over, gather-aware, aware-on}
 use Rattle.single_crash.proofs.CubeCrash.{enough, but-one, Cut, cut}
 
@@ -45,29 +41,26 @@ pub data Phase (n d b round k : ℕ) (p : Stand) : Type 0 where
   next_round : (s : ℕ) → s ≤ d → Gather n d b s p → p.state.rounds ≤ suc round → k + left_to n s p.state.table ≤ enough n d → Phase n d b round k p
   all_know : AllAware n b p → Phase n d b round k p
 
-module _ (n d b : ℕ) (c : Cubic n d) (hb : b < n) (round : ℕ) where
+module _ {n d b : ℕ} (c : Cubic n d) (hb : b < n) (round : ℕ) where
   phase-next : (k : ℕ) (p : Stand) → Phase n d b round k p → Phase n d b round (suc k) (grant_turn Cube n p)
   phase-next k p (same_round s le r e few) =
-      let less = spread-less n d b c hb s le p r in
-      by_bool (round_over n (turn Cube n p.state.table kind_turn (granted_at n p)))
-      (λ over.
-      let w = closes Cube n (all_but b) (cube-crew n d b (all_but b) c (but-others n b)) r.begins p r.running over in
-      let left = spread-left n d b c hb s le p r over in
-      next_round s le (spread-over n d b c hb s le p r over) (omega (arith, w.rounds)) (omega (arith, less, left)))
-      (λ on.
-      let w = goes_on Cube n (all_but b) (cube-crew n d b (all_but b) c (but-others n b)) r.begins p r.running on in
-      same_round s le (spread-on n d b c hb s le p r on) (w.rounds ∙ e) (rw w.table (omega (arith, less))))
+      let less = spread-less c hb r in
+      by_round r.running
+      (λ over w.
+      let left = spread-left c hb r over in
+      next_round s le (spread-over c hb r over) (omega (arith, w.rounds)) (omega (arith, less, left)))
+      (λ on w.
+      same_round s le (spread-on c hb r on) (w.rounds ∙ e) (rw w.table (omega (arith, less))))
   phase-next k p (next_round s le r e few) =
       by_cases (dec_lt (turns_made n p.state.table (granted_at n p)) s)
       (λ l.
-      let less = gather-less n d b c hb s le p r l in
-      by_bool (round_over n (turn Cube n p.state.table kind_turn (granted_at n p)))
-      (λ over. all_know (gather-over n d b c hb s le p r over))
-      (λ on.
-      let w = goes_on Cube n (all_but b) (cube-crew n d b (all_but b) c (but-others n b)) r.begins p r.running on in
-      next_round s le (gather-on n d b c hb s le p r on) (omega (arith, w.rounds)) (rw w.table (omega (arith, less)))))
-      (λ l. all_know (aware-on n d b c p (gather-aware n d b c hb s le p r (omega arith))))
-  phase-next k p (all_know r) = all_know (aware-on n d b c p r)
+      let less = gather-less c hb le r l in
+      by_round r.running
+      (λ over w. all_know (gather-over c hb le r over))
+      (λ on w.
+      next_round s le (gather-on c hb le r on) (omega (arith, w.rounds)) (rw w.table (omega (arith, less)))))
+      (λ l. all_know (aware-on (gather-aware c hb le r (omega arith))))
+  phase-next k p (all_know r) = all_know (aware-on r)
 
   phase-after : (p : Stand) (g : ℕ) → Phase n d b round 0 p → Phase n d b round g (after_grants Cube n p g)
   unfolding after_grants
@@ -79,11 +72,11 @@ module _ (n d b : ℕ) (c : Cubic n d) (hb : b < n) (round : ℕ) where
 
   -- after so many grants, and so many rounds
   phase-grants : (k : ℕ) (p : Stand) → enough n d ≤ k → Phase n d b round k p → KnownDead n p.state.table b
-  phase-grants k p far (same_round s le r e few) = absurd (omega (arith, spread-less n d b c hb s le p r))
+  phase-grants k p far (same_round s le r e few) = absurd (omega (arith, spread-less c hb r))
   phase-grants k p far (next_round s le r e few) =
       by_cases (dec_lt (turns_made n p.state.table (granted_at n p)) s)
-      (λ l. absurd (omega (arith, gather-less n d b c hb s le p r l)))
-      (λ l. aware-dead p (gather-aware n d b c hb s le p r (omega arith)))
+      (λ l. absurd (omega (arith, gather-less c hb le r l)))
+      (λ l. aware-dead p (gather-aware c hb le r (omega arith)))
   phase-grants k p far (all_know r) = aware-dead p r
 
   phase-rounds : (k : ℕ) (p : Stand) → round + 2 ≤ p.state.rounds → Phase n d b round k p → KnownDead n p.state.table b
@@ -101,8 +94,8 @@ module _ (n d b : ℕ) (c : Cubic n d) (hb : b < n) (round : ℕ) where
       record {
         begins = begins;
         running = run;
-        paced = λ i h q. pace-paced n d b c t i (pace i h q);
-        learned = λ x h q all few. absurd (omega (arith, few, digits-all n d b c hb x h, ahead x h q));
+        paced = λ i h q. pace-paced b c (pace i h q);
+        learned = λ x h q all few. absurd (omega (arith, few, digits-all b c hb x h, ahead x h q));
       } in
       let each : (i : ℕ) → i < n → turns_to (waits n t) d (turns_made n t) i ≤ cond (all_but b i) d 0 =
       λ i h. by_bool (waits n t i)
@@ -110,41 +103,33 @@ module _ (n d b : ℕ) (c : Cubic n d) (hb : b < n) (round : ℕ) where
       (λ w. rw w (omega arith)) in
       let e₂ : suc (suc d) ≡ d + 2 = omega arith in
       let more : (n - 1) * (d + 2) ≡ (n - 1) * d + (n - 1) + (n - 1) = rw (← e₂, mul-suc, mul-suc) refl in
-      next_round d (omega arith) learns e (omega (arith, sum-le n each, but-one n b d hb, more, four n d c))
+      next_round d (omega arith) learns e (omega (arith, sum-le n each, but-one n b d hb, more, four c))
 
   -- the crash
   module _ (q : Stand) (w : Whole n d q) (same : q.state.rounds ≡ round) where
-    abbrev crew : Crew Cube n (all_but b)
-    crew = cube-crew n d b (all_but b) c (but-others n b)
-
     abbrev v : List ℕ
     v = crash n q.state.table b
 
     abbrev q' : Stand
     q' = crash_at Cube n q b
 
-    bytes : (k j : ℕ) → 1 ≤ j → j < stride n → cell n v k j ≡ cell n q.state.table k j
-    bytes = crash-same Cube n b w.begins q crew hb w.running
+    same-pass : (i : ℕ) → SamePass n q.state.table v i
+    same-pass = crash-pass b (but-crew b c) hb w.running
 
     crash-pace : (i : ℕ) → i < n → i ≢ b → OnPace n d v i
-    crash-pace i h e =
-        pace-same n d q.state.table v i (bytes i finished_column (omega arith) (omega arith)) (bytes i tests_column (omega arith) (omega arith))
-        (bytes i next_column (omega arith) (omega arith)) (w.pace i h)
-
-    crash-tests : (i : ℕ) → tests_made n v i ≡ tests_made n q.state.table i
-    crash-tests i = bytes i tests_column (omega arith) (omega arith)
+    crash-pace i h e = pace-same (same-pass i) (w.pace i h)
 
     nobody : (x : ℕ) → x < n → suspects n v x b ≡ 0
-    nobody x h = bytes x (head + b) (omega arith) (omega arith) ∙ w.running.plain.accurate x b h hb refl refl
+    nobody x h = crash-same b (but-crew b c) hb w.running x (head + b) (omega arith) (omega arith) ∙ w.running.plain.accurate x b h hb refl refl
 
     found : Cut n d b q.state.table
-    found = cut n d b c hb w.begins q w.running w.pace
+    found = cut b c hb w.running w.pace
 
     abbrev s : ℕ
     s = found.s
 
     ahead : (x : ℕ) → x < n → x ≢ b → s ≡ 0 → tests_made n v x < by_distance b x
-    ahead x h e z = omega (arith, crash-tests x, found.ahead x h e (rw z (mod-one _)))
+    ahead x h e z = omega (arith, (same-pass x).made, found.ahead x h e (rw z (mod-one _)))
 
     spread : (begins : ℕ) → Running Cube n (all_but b) begins q' → q'.state.table ≡ v → 1 ≤ s → Spread n d b s q'
     spread begins run is some = record {
@@ -154,25 +139,25 @@ module _ (n d b : ℕ) (c : Cubic n d) (hb : b < n) (round : ℕ) where
       near = rw is (record {
         behind = λ z h hz l e.
             let zero : h ≡ 0 = omega arith in
-            omega (arith, zero, crash-tests z, found.begun some z hz (beside-of z b (rw zero at e)));
+            omega (arith, zero, (same-pass z).made, found.begun some z hz (beside-of z b (rw zero at e)));
         aware = λ x h e one. absurd (omega (arith, nobody x h));
       });
-      learned = rw is (λ x h e whole few. absurd (omega (arith, crash-tests x, found.ahead x h e whole)));
+      learned = rw is (λ x h e whole few. absurd (omega (arith, (same-pass x).made, found.ahead x h e whole)));
     }
 
     left-same : left_with n d b s v ≡ left_with n d b s q.state.table
     unfolding turns_left
-    left-same = sum_by n (λ i h. rw (crash-tests i, bytes i finished_column (omega arith) (omega arith)) refl)
+    left-same = sum_by n (λ i h. rw ((same-pass i).made, (same-pass i).done) refl)
 
     phase-crash : Phase n d b round 0 q'
     phase-crash =
         by_bool (round_over n v)
         (λ over.
-        let z = crash-closes Cube n b w.begins q crew hb w.running over in
-        from-now q' _ z.running (λ i h e. pace-start n d _ i (z.fresh i h))
+        let z = crash-closes b (but-crew b c) hb w.running over in
+        from-now q' _ z.running (λ i h e. pace-start d (z.fresh i h))
         (λ x h e. omega (arith, (z.fresh x h).untested, level-above (distance x b) 0 (distance-some x b e))) (omega (arith, z.rounds)))
         (λ on.
-        let z = crash-goes_on Cube n b w.begins q crew hb w.running on in
+        let z = crash-goes_on b (but-crew b c) hb w.running on in
         by_cases (ℕ_discrete s 0)
         (λ none. from-now q' _ z.running (rw z.table crash-pace) (rw z.table (λ x h e. ahead x h e none)) (omega (arith, z.rounds)))
         (λ some.
@@ -180,28 +165,15 @@ module _ (n d b : ℕ) (c : Cubic n d) (hb : b < n) (round : ℕ) where
         (rw z.table (omega (arith, left-same, found.small (omega arith))))))
 
 -- a sound plant
-module _ (n d : ℕ) (levels : 2 ≤ d) (power : n ≡ 2 ^ d) (p : Stand) (sound : Sound Cube n p) where
-  pub taken : Grantable Cube n p.state.table p.last
-  taken = grantable Cube n p.state.table p.last sound.granted
-
+module _ {n : ℕ} (d : ℕ) (levels : 2 ≤ d) (power : n ≡ 2 ^ d) {p : Stand} (sound : Sound Cube n p) where
   pub sound-cubic : Cubic n d
-  sound-cubic = record { size = taken.ok.size; power = power; levels = levels }
-
-  pub sound-plain : Plain Cube n everyone p.state.table
-  sound-plain = record {
-    lines = (taken.ok.long, accepted-line Cube n p.state.table taken.ok);
-    lives = sound.all_live;
-    accurate = λ i j hi hj a c. sound.nobody i j hi hj;
-  }
-
-  pub sound-fresh : (i : ℕ) → i < n → Reset n p.state.table i
-  sound-fresh = (first_round Cube n p.state.table taken.ok sound.start (λ i j h k a c. sound.nobody i j h k)).fresh
+  sound-cubic = record { size = (sound-run sound).crew.size; power = power; levels = levels }
 
   sound-whole : Whole n d p
   sound-whole = record {
     begins = _;
-    running = begin Cube n everyone (full_crew n d sound-cubic) p sound-plain sound-fresh taken.last_fits;
-    pace = λ i h. pace-start n d p.state.table i (sound-fresh i h);
+    running = sound-run sound;
+    pace = λ i h. pace-start d (sound-fresh sound i h);
   }
 
   module _ (k b g : ℕ) (hb : b < n) where
@@ -210,14 +182,14 @@ module _ (n d : ℕ) (levels : 2 ≤ d) (power : n ≡ 2 ^ d) (p : Stand) (sound
 
     sound-phase : Phase n d b before.state.rounds g (behind_crash Cube n p k b g)
     sound-phase =
-        phase-after n d b sound-cubic hb before.state.rounds (crash_at Cube n before b) g
-        (phase-crash n d b sound-cubic hb before.state.rounds before (whole-after n d sound-cubic p k sound-whole) refl)
+        phase-after sound-cubic hb before.state.rounds (crash_at Cube n before b) g
+        (phase-crash sound-cubic hb before.state.rounds before (whole-after sound-cubic k sound-whole) refl)
 
 -- the claims, ends in themselves
 pub cube-in-grants : CubeInGrants
 cube-in-grants n d levels power p k b g sound hb far =
-    phase-grants n d b (sound-cubic n d levels power p sound) hb _ g _ far (sound-phase n d levels power p sound k b g hb)
+    phase-grants (sound-cubic d levels power sound) hb _ g _ far (sound-phase d levels power sound k b g hb)
 
 pub cube-in-rounds : CubeInRounds
 cube-in-rounds n d levels power p k b g sound hb far =
-    phase-rounds n d b (sound-cubic n d levels power p sound) hb _ g _ far (sound-phase n d levels power p sound k b g hb)
+    phase-rounds (sound-cubic d levels power sound) hb _ g _ far (sound-phase d levels power sound k b g hb)

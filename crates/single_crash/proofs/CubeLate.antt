@@ -6,44 +6,43 @@ use mathlib.Core.Logic.{◌≢◌, by_cases}
 use mathlib.Core.Bool.{Bool, true, false}
 use mathlib.Core.List.{List}
 use Prim.Native.Nat.{ℕ, suc, ◌+◌, ◌%◌, ◌^◌, ◌≤◌, ◌<◌}
-use native.Mathlib.Nat.{mul-zero, mod-eq_of_lt}
+use native.Mathlib.Nat.{mod-eq_of_lt}
 use native.Mathlib.Decide.{ℕ_discrete, dec_lt}
 use native.Mathlib.Omega.{arith}
 use borrow.Author.Tests.{ne_eqb}
 use lib.Bits.{bit_xor, xor_mod, xor_lt}
 use lib.Pow.{pow_mono, pow-lt}
 use Rattle.lists.proofs.BoolLaws.{by_bool}
-use Rattle.lists.proofs.SumLaws.{sum_by, sum-const}
+use Rattle.lists.proofs.SumLaws.{sum-zero}
 use Rattle.lists.proofs.Xor.{xor-cancel, xor-undo}
 use Rattle.table.specs.declared.wiring.Wiring.TheVariants.{Cube}
-use Rattle.table.specs.Table.{next_column, finished_column, next_distance, finished, tests_made, suspects, row}
+use Rattle.table.specs.Table.{next_distance, finished, tests_made, suspects, row}
 use Rattle.table.specs.Rules.{round_over}
 use Rattle.station.specs.Groups.{distance, station_at}
 use Rattle.station.specs.Tests.{unsuspected, due}
 use Rattle.station.specs.Wired.{wired_station, next_after}
 use Rattle.station.proofs.WiredLaws.{cube-station}
-use Rattle.plant.specs.Turn.{kind_turn, next_test, makes_test, turn}
+use Rattle.plant.specs.Turn.{next_test, makes_test}
 use Rattle.plant.proofs.NextTest.{test-station}
-use Rattle.granter.specs.Grant.{waits}
 use Rattle.granter.specs.Fairness.{stations_before}
-use Rattle.granter.specs.Drive.{Stand, granted_at, grant_turn}
+use Rattle.granter.specs.Drive.{Stand, grant_turn}
 use Rattle.detection.proofs.TestsDue.{row-unsuspected}
 use Rattle.detection.proofs.TurnEffect.{Row, Tested}
-use Rattle.detection.proofs.RoundKnowledge.{all-finished}
-use Rattle.witness.proofs.Moves.{finish-bytes, test-bytes}
 use Rattle.single_crash.specs.Sweeps.{turns_made}
 use Rattle.single_crash.proofs.Sweeps.{place-below}
-use Rattle.single_crash.proofs.Running.{Crew, Running, chosen, is_live, going, kept, heads, moved, goes_on}
-use Rattle.single_crash.proofs.Crashing.{all_but}
-use Rattle.single_crash.proofs.Passes.{turns_left, left-turn}
-use Rattle.single_crash.proofs.OnRing.{left_of}
+use Rattle.single_crash.proofs.SweepLaw.{grant_of}
+use Rattle.single_crash.proofs.Running.{Running, going, kept, heads, moved, goes_on, turn-less, live-waits, has-ended, all-ended, rows-same}
+use Rattle.single_crash.proofs.Running.{rows-tested, left_of, others-same}
+use Rattle.single_crash.proofs.Crashing.{all_but, but-dead, but-apart}
+use Rattle.single_crash.proofs.Passes.{turns_left}
+use Rattle.single_crash.proofs.Running.{left_of}
 use Rattle.single_crash.proofs.Heard.{Heard, had, found, told_by_tester, told_by_tested, heard}
 use Rattle.single_crash.proofs.CubeDue.{Few, power-due, second-due}
 use Rattle.single_crash.proofs.CubePace.{Cubic, few-but, Paced, pace-test, due-now}
 use Rattle.single_crash.proofs.CubeWays.{turned}
-use Rattle.single_crash.proofs.CubeRun.{OthersLive, cube-crew, fewest-turns, paced-turn, granted-other}
+use Rattle.single_crash.proofs.CubeRun.{OthersLive, fewest-turns, paced-turn, granted-other}
 use Rattle.single_crash.proofs.CubeOrder.{place-last}
-use Rattle.single_crash.proofs.CubeStages.{but-others, but-dead, but-apart}
+use Rattle.single_crash.proofs.CubeStages.{but-others}
 
 -- all boards but board 1 are live
 abbrev pub L : ℕ → Bool
@@ -70,6 +69,12 @@ pub record Late (n d : ℕ) (p : Stand) : Type 0 where
 abbrev pub left_of_three : ℕ → List ℕ → ℕ
 left_of_three n t = left_of n L (λ i. 2) t
 
+-- none are left where each has
+none-left : (n : ℕ) (t : List ℕ) → ((i : ℕ) → i < n → i ≢ 1 → 3 ≤ turns_made n t i) → left_of_three n t ≡ 0
+unfolding turns_left
+none-left n t all =
+    sum-zero n (λ i h. by_bool (L i) (λ live. rw live (omega (arith, all i h (but-apart 1 i live)))) (λ live. rw live refl))
+
 -- last digits below 4 stay so by a distance below 4
 low-across : (m k : ℕ) → m % 2 ^ 3 < 2 ^ 2 → k < 2 ^ 2 → bit_xor m k % 2 ^ 3 < 2 ^ 2
 low-across m k low small =
@@ -77,33 +82,18 @@ low-across m k low small =
     let e : bit_xor m k % 2 ^ 3 ≡ bit_xor (m % 2 ^ 3) k = xor_mod m k 3 ∙ rw same refl in
     rw e (xor_lt 2 (m % 2 ^ 3) k low small)
 
-module _ (n d : ℕ) (c : Cubic n d) (three : 3 ≤ d) (eight : 8 ≤ n) (p : Stand) (o : Late n d p) where
-  abbrev t : List ℕ
-  t = p.state.table
-
-  abbrev g : ℕ
-  g = granted_at n p
+module _ {n d : ℕ} (c : Cubic n d) (three : 3 ≤ d) (eight : 8 ≤ n) {p : Stand} (o : Late n d p) where
+  open grant_of Cube n p use {before as t, board as g, turned as t'}
+  open granted-other o.running 1 (but-dead 1) use {below, apart}
 
   abbrev made : ℕ
   made = turns_made n t g
 
-  abbrev t' : List ℕ
-  t' = turn Cube n t kind_turn g
-
   abbrev others : OthersLive n 1 L
   others = but-others n 1
 
-  abbrev crew : Crew Cube n L
-  crew = cube-crew n d 1 L c others
-
-  below : g < n
-  below = (chosen Cube n L crew 5 p o.running).0
-
   unfinished : finished n t g ≡ 0
-  unfinished = going Cube n L crew 5 p o.running
-
-  apart : g ≢ 1
-  apart = granted-other n d 1 L c others 5 p o.running (but-dead 1)
+  unfinished = going o.running
 
   tests-is : tests_made n t g ≡ made
   tests-is = omega (arith, unfinished)
@@ -115,11 +105,11 @@ module _ (n d : ℕ) (c : Cubic n d) (three : 3 ≤ d) (eight : 8 ≤ n) (p : St
   -- where board 0 is granted in its first three turns
   zero-test : g ≡ 0 → made < 3 → (makes_test Cube n t g ≡ true) × (next_test Cube n t g ≡ suc made)
   zero-test e l =
-      let few : Few d (row n t g) g 1 = few-but n d 1 L c others t o.running.plain g below apart in
+      let few : Few d (row n t g) g 1 = few-but 1 c others o.running.plain g below apart in
       let beside : station_at g 1 ≡ 1 = rw e refl in
       let next : next_distance n t g ≡ suc made = rw e (o.early.next (rw e at l)) in
       let room : suc made < 2 ^ d = omega (arith, pow_mono {i = 3} {j = d} three) in
-      due-now n d c t g 1 few (suc made) next room (which few beside (ℕ_discrete made 0) (ℕ_discrete made 1))
+      due-now c t g 1 few (suc made) next room (which few beside (ℕ_discrete made 0) (ℕ_discrete made 1))
     where
       which : Few d (row n t g) g 1 → station_at g 1 ≡ 1 → Dec (made ≡ 0) → Dec (made ≡ 1) → due (row n t g) g (suc made) ≡ true
       which few beside (yes z) f = rw z (power-due d (row n t g) g 1 few 0 (omega arith))
@@ -135,9 +125,9 @@ module _ (n d : ℕ) (c : Cubic n d) (three : 3 ≤ d) (eight : 8 ≤ n) (p : St
   -- where another one is
   far-test : g ≢ 0 → makes_test Cube n t g ≡ true → next_test Cube n t g ≡ 2 ^ made
   far-test q e =
-      let few : Few d (row n t g) g 1 = few-but n d 1 L c others t o.running.plain g below apart in
+      let few : Few d (row n t g) g 1 = few-but 1 c others o.running.plain g below apart in
       let paced = (o.paced g below apart).far (not-beside g q) in
-      (pace-test n d c t g 1 few unfinished (not-beside g q) paced e).1 ∙ ap (λ (x : ℕ). 2 ^ x) tests-is
+      (pace-test c t g 1 few unfinished (not-beside g q) paced e).1 ∙ ap (λ (x : ℕ). 2 ^ x) tests-is
 
   -- in the first two sweeps both test at distance 1, and 2
   low-test : made < 2 → makes_test Cube n t g ≡ true → next_test Cube n t g ≡ 2 ^ made
@@ -156,51 +146,46 @@ module _ (n d : ℕ) (c : Cubic n d) (three : 3 ≤ d) (eight : 8 ≤ n) (p : St
       by_cases (ℕ_discrete i 0)
       (λ z. by_cases (dec_lt (turns_made n t 0) 3) (λ l. absurd (f (rw z (o.early.going l)))) (λ l. rw z (omega arith)))
       (λ z.
-      let one : finished n t i ≡ 1 = omega (arith, f, (o.running.plain.lines.1 i h).pass.finished_range) in
+      let one = has-ended o.running i h f in
       omega (arith, ((o.paced i h q).far (not-beside i z)).ended one))
 
   fewest-made : (i : ℕ) → i < n → i ≢ 1 → turns_made n t i < 3 → made ≤ turns_made n t i
   fewest-made i h q l =
       by_cases (ℕ_discrete (finished n t i) 0)
-      (λ f. fewest-turns n d 1 L c others 5 p o.running i h q f)
+      (λ f. fewest-turns o.running 1 c others i h q f)
       (λ f. absurd (omega (arith, ended-three i h q f)))
 
   -- as long as turns are left to three the granted board makes one of them
   pub few-turns : 1 ≤ left_of_three n t → made < 3
-  unfolding turns_left
   few-turns some =
       by_cases (dec_lt made 3) (λ l. l)
       (λ l.
       let all : (i : ℕ) → i < n → i ≢ 1 → 3 ≤ turns_made n t i =
       λ i h q. by_cases (dec_lt (turns_made n t i) 3) (λ m. absurd (omega (arith, fewest-made i h q m))) (λ m. omega arith) in
-      let each : (i : ℕ) → i < n → turns_left L (λ i. 2) (turns_made n t) i ≡ 0 =
-      λ i h. by_bool (L i) (λ live. rw live (omega (arith, all i h (but-apart 1 i live)))) (λ live. rw live refl) in
-      absurd (omega (arith, some, sum_by n each, sum-const 0 n, mul-zero n)))
+      absurd (omega (arith, some, none-left n t all)))
 
   pub late-less : made < 3 → suc (left_of_three n t') ≡ left_of_three n t
-  late-less l =
-      let m = moved Cube n L crew 5 p o.running in
-      left-turn n L (λ i. 2) (turns_made n t) (turns_made n t') g below (is_live Cube n L crew 5 p o.running) (omega arith) m.own m.others
+  late-less l = turn-less o.running (λ i. 2) (omega arith)
 
   turns-own : (i : ℕ) → g ≡ i → turns_made n t' i ≡ suc made
-  turns-own i e = ap (turns_made n t') (sym e) ∙ (moved Cube n L crew 5 p o.running).own
+  turns-own i e = ap (turns_made n t') (sym e) ∙ (moved o.running).own
 
   more-turns : (i : ℕ) → i < n → turns_made n t i ≤ turns_made n t' i
   more-turns i h =
       by_cases (ℕ_discrete i g)
       (λ e. omega (arith, turns-own i (sym e), ap (turns_made n t) e))
-      (λ q. omega (arith, (moved Cube n L crew 5 p o.running).others i h q))
+      (λ q. omega (arith, (moved o.running).others i h q))
 
   paced' : (i : ℕ) → i < n → i ≢ 1 → Paced n d 1 t' i
-  paced' i h q = paced-turn n d 1 L c others 5 p o.running i h q (o.paced i h q)
+  paced' i h q = paced-turn o.running 1 c others i h q (o.paced i h q)
 
   -- what the turn of board 0 makes of it
   early-own : g ≡ 0 → Early n t'
   unfolding next_after
   early-own e =
-      let own = heads Cube n L crew 5 p o.running in
+      let own = heads o.running in
       let turns = turns-own 0 e in
-      let keeps : suspects n t 0 1 ≡ 1 → suspects n t' 0 1 ≡ 1 = (kept Cube n L crew 5 p o.running).grows 0 1 (omega arith) (omega arith) in
+      let keeps : suspects n t 0 1 ≡ 1 → suspects n t' 0 1 ≡ 1 = (kept o.running).grows 0 1 (omega arith) (omega arith) in
       by_cases (dec_lt made 3)
       (λ l.
       let z = zero-test e l in
@@ -214,7 +199,7 @@ module _ (n d : ℕ) (c : Cubic n d) (three : 3 ≤ d) (eight : 8 ≤ n) (p : St
             let at : next_test Cube n t g ≡ 1 = omega (arith, z.1, none) in
             let beside : station_at g 1 ≡ 1 = rw e refl in
             let tested : Tested n L (Row n t g) (Row n t 1) t' g 1 =
-            rw (at, cube-station Cube n g 1 refl, beside) at ((kept Cube n L crew 5 p o.running).tests z.0) in
+            rw (at, cube-station Cube n g 1 refl, beside) at ((kept o.running).tests z.0) in
             ap (λ (x : ℕ). suspects n t' x 1) (sym e) ∙ tested.finds (but-dead 1))
             (λ some. keeps (o.early.aware (omega (arith, some, ap (turns_made n t) e))));
       })
@@ -229,32 +214,26 @@ module _ (n d : ℕ) (c : Cubic n d) (three : 3 ≤ d) (eight : 8 ≤ n) (p : St
   early' =
       by_cases (ℕ_discrete g 0) early-own
       (λ q.
-      let own = heads Cube n L crew 5 p o.running in
       let other : 0 ≢ g = λ z. q (sym z) in
-      let f = own.others 0 finished_column other (omega arith) in
-      let x = own.others 0 next_column other (omega arith) in
-      let m = (moved Cube n L crew 5 p o.running).others 0 (omega arith) other in
+      let same = others-same o.running 0 other in
+      let m = (moved o.running).others 0 (omega arith) other in
       record {
-        going = λ few. f ∙ o.early.going (omega (arith, m));
-        next = λ few. omega (arith, x, m, o.early.next (omega (arith, m)));
-        aware = λ some. (kept Cube n L crew 5 p o.running).grows 0 1 (omega arith) (omega arith) (o.early.aware (omega (arith, m)));
+        going = λ few. same.done ∙ o.early.going (omega (arith, m));
+        next = λ few. omega (arith, same.next, m, o.early.next (omega (arith, m)));
+        aware = λ some. (kept o.running).grows 0 1 (omega arith) (omega arith) (o.early.aware (omega (arith, m)));
       })
 
   -- a round does not close as long as turns are left to three
   pub late-open : 1 ≤ left_of_three n t' → round_over n t' ≡ false
-  unfolding turns_left
   late-open some =
       by_bool (round_over n t')
       (λ over.
-      let plain = (kept Cube n L crew 5 p o.running).plain in
       let all : (i : ℕ) → i < n → i ≢ 1 → 3 ≤ turns_made n t' i =
-      λ i h q. let f = all-finished Cube n L t' plain over i h (others i h q) in
+      λ i h q. let f = all-ended o.running over i h (others i h q) in
       by_cases (ℕ_discrete i 0)
       (λ z. by_cases (dec_lt (turns_made n t' 0) 3) (λ l. absurd (omega (arith, early'.going l, ap (finished n t') z, f))) (λ l. rw z (omega arith)))
       (λ z. omega (arith, f, ((paced' i h q).far (not-beside i z)).ended f)) in
-      let each : (i : ℕ) → i < n → turns_left L (λ i. 2) (turns_made n t') i ≡ 0 =
-      λ i h. by_bool (L i) (λ live. rw live (omega (arith, all i h (but-apart 1 i live)))) (λ live. rw live refl) in
-      absurd (omega (arith, some, sum_by n each, sum-const 0 n, mul-zero n)))
+      absurd (omega (arith, some, none-left n t' all)))
       (λ on. on)
 
   -- whom the granted board tests
@@ -267,15 +246,11 @@ module _ (n d : ℕ) (c : Cubic n d) (three : 3 ≤ d) (eight : 8 ≤ n) (p : St
   -- where a suspicion of board 1 comes from
   heard-of : (x : ℕ) → x < n → suspects n t' x 1 ≡ 1 → makes_test Cube n t g ≡ true → Heard n t g y x 1
   heard-of x hx one e =
-      let bytes =
-      test-bytes Cube n L t g c.size o.running.plain crew.company below (is_live Cube n L crew 5 p o.running) unfinished e x 1 hx
-      (omega arith) in
-      heard n t (L y) g y x 1 (sym bytes ∙ one)
+      heard n t (L y) g y x 1 (sym (rows-tested o.running e x 1 hx (omega arith)) ∙ one)
 
   same-row : (x : ℕ) → makes_test Cube n t g ≡ false → suspects n t' x 1 ≡ suspects n t x 1
   same-row x e =
-      finish-bytes Cube n L t g c.size o.running.plain crew.company below (is_live Cube n L crew 5 p o.running) unfinished e x 1
-      (omega arith)
+      rows-same o.running e x 1 (omega arith)
 
   -- board 1 does not suspect itself
   not-dead : (x : ℕ) → suspects n t x 1 ≡ 1 → x ≢ 1
@@ -354,7 +329,7 @@ module _ (n d : ℕ) (c : Cubic n d) (three : 3 ≤ d) (eight : 8 ≤ n) (p : St
 
   unaware' : turns_made n t' 4 < 3 → suspects n t' 4 1 ≡ 0
   unaware' few =
-      let plain = (kept Cube n L crew 5 p o.running).plain in
+      let plain = (kept o.running).plain in
       let not_one : suspects n t' 4 1 ≢ 1 =
       λ one. by_bool (makes_test Cube n t g)
       (λ e. unheard few e (heard-of 4 (omega arith) one e))
@@ -364,7 +339,7 @@ module _ (n d : ℕ) (c : Cubic n d) (three : 3 ≤ d) (eight : 8 ≤ n) (p : St
   -- so it goes on
   pub late-next : round_over n t' ≡ false → Late n d (grant_turn Cube n p)
   late-next on =
-      let w = goes_on Cube n L crew 5 p o.running on in
+      let w = goes_on o.running on in
       record {
         running = w.running;
         paced = rw w.table paced';
@@ -375,31 +350,27 @@ module _ (n d : ℕ) (c : Cubic n d) (three : 3 ≤ d) (eight : 8 ≤ n) (p : St
 
   -- who waits when board 4 has made three turns has made three too
   waiting-three : 3 ≤ turns_made n t 4 → (i : ℕ) → i < n → i ≢ 1 → finished n t i ≡ 0 → 3 ≤ turns_made n t i
-  unfolding waits
   waiting-three l i h q f =
       let s = o.running.sweep in
-      let waits_i : waits n t i ≡ true = rw (o.running.plain.lives i h ∙ others i h q, f) refl in
+      let waits_i = live-waits o.running i h (others i h q) f in
       let place = place-below n 5 i (omega arith) h in
       by_cases (dec_lt (stations_before n 5 i) s.passed)
       (λ m. omega (arith, s.done i h waits_i m, s.most 4 (omega arith)))
       (λ m.
       by_cases (ℕ_discrete (finished n t 4) 0)
       (λ z.
-      let waits_4 : waits n t 4 ≡ true = rw (o.running.plain.lives 4 (omega arith), z) refl in
+      let waits_4 = live-waits o.running 4 (omega arith) refl z in
       omega (arith, s.to_come i h waits_i (omega arith), s.to_come 4 (omega arith) waits_4 (omega (arith, place, place-last n (omega arith)))))
       (λ z.
-      let one : finished n t 4 ≡ 1 = omega (arith, z, (o.running.plain.lines.1 4 (omega arith)).pass.finished_range) in
+      let one = has-ended o.running 4 (omega arith) z in
       let all = ((o.paced 4 (omega arith) (λ q. omega arith)).far (not-beside 4 (λ q. omega arith))).ended one in
       omega (arith, s.to_come i h waits_i (omega arith), s.most 4 (omega arith), all, one)))
 
   -- where turns are left to three board 4 has not made its third
   pub late-unaware : 1 ≤ left_of_three n t → suspects n t 4 1 ≡ 0
-  unfolding turns_left
   late-unaware some =
       by_cases (dec_lt (turns_made n t 4) 3) o.unaware
       (λ l.
       let all : (i : ℕ) → i < n → i ≢ 1 → 3 ≤ turns_made n t i =
       λ i h q. by_cases (ℕ_discrete (finished n t i) 0) (waiting-three (omega arith) i h q) (ended-three i h q) in
-      let each : (i : ℕ) → i < n → turns_left L (λ i. 2) (turns_made n t) i ≡ 0 =
-      λ i h. by_bool (L i) (λ live. rw live (omega (arith, all i h (but-apart 1 i live)))) (λ live. rw live refl) in
-      absurd (omega (arith, some, sum_by n each, sum-const 0 n, mul-zero n)))
+      absurd (omega (arith, some, none-left n t all)))

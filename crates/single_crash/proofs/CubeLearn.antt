@@ -11,15 +11,18 @@ use native.Mathlib.Omega.{arith}
 use lib.Bits.{xor_lt}
 use lib.Pow.{pow_pos, pow_mono}
 use Rattle.lists.proofs.BoolLaws.{by_bool}
-use Rattle.table.specs.Table.{tests_column, finished, tests_made, suspects, row}
+use Rattle.table.specs.Table.{finished, tests_made, suspects, row}
 use Rattle.table.specs.declared.wiring.Wiring.TheVariants.{Cube}
 use Rattle.station.specs.Groups.{station_at}
 use Rattle.station.proofs.WiredLaws.{cube-station}
 use Rattle.plant.specs.Turn.{next_test, makes_test}
-use Rattle.plant.proofs.TurnHeads.{Heads}
-use Rattle.detection.proofs.TurnEffect.{Plain, Row, Tested, TurnKept}
+use Rattle.granter.specs.Drive.{Stand}
+use Rattle.detection.proofs.TurnEffect.{Row, Tested}
+use Rattle.single_crash.proofs.SweepLaw.{grant_of}
+use Rattle.single_crash.proofs.Running.{Running, going, kept, heads, has-ended, others-same}
 use Rattle.single_crash.proofs.CubeDue.{Few}
 use Rattle.single_crash.proofs.CubePace.{Cubic, few-but, Paced, pace-test, first-test}
+use Rattle.single_crash.proofs.CubeRun.{OthersLive, fewest, granted-other}
 
 -- who is to learn of b, and by how many tests
 pub record Way (n d b : ℕ) (Learns : ℕ → Type 0) (need : ℕ → ℕ) : Type 0 where
@@ -34,70 +37,72 @@ pub record Way (n d b : ℕ) (Learns : ℕ → Type 0) (need : ℕ → ℕ) : Ty
 abbrev pub Learned : ℕ → ℕ → (ℕ → Type 0) → (ℕ → ℕ) → List ℕ → Type 0
 Learned n b Learns need t = (x : ℕ) → x < n → x ≢ b → Learns x → need x ≤ tests_made n t x → suspects n t x b ≡ 1
 
-module _ (n d b : ℕ) (L : ℕ → Bool) (c : Cubic n d) (others : (x : ℕ) → x < n → x ≢ b → L x ≡ true) (hb : b < n) (Learns : ℕ → Type 0)
-    (need : ℕ → ℕ) (way : Way n d b Learns need) (t : List ℕ) (paced : (x : ℕ) → x < n → x ≢ b → Paced n d b t x) (known : Learned n b Learns need t)
-  where
-    -- who has finished its pass knows it
-    pub learned-ended : (x : ℕ) → x < n → x ≢ b → Learns x → finished n t x ≡ 1 → suspects n t x b ≡ 1
-    learned-ended x hx apart s f =
-        let p = paced x hx apart in
-        known x hx apart s
-        (by_cases (ℕ_discrete (station_at x 1) b)
-        (λ e. omega (arith, way.beside x e, p.begins.some f))
-        (λ e. omega (arith, way.most x hx apart s, (p.far e).ended f)))
+module _ {n d b : ℕ} {Learns : ℕ → Type 0} {need : ℕ → ℕ} (way : Way n d b Learns need) where
+  -- who has finished its pass knows it
+  pub learned-ended : (t : List ℕ) → ((x : ℕ) → x < n → x ≢ b → Paced n d b t x) → Learned n b Learns need t
+      → (x : ℕ) → x < n → x ≢ b → Learns x → finished n t x ≡ 1 → suspects n t x b ≡ 1
+  learned-ended t paced known x hx apart s f =
+      let p = paced x hx apart in
+      known x hx apart s
+      (by_cases (ℕ_discrete (station_at x 1) b)
+      (λ e. omega (arith, way.beside x e, p.begins.some f))
+      (λ e. omega (arith, way.most x hx apart s, (p.far e).ended f)))
 
-    -- a turn of i, while no other that waits has made fewer tests
-    module _ (p : Plain Cube n L t) (dead : L b ≡ false) (i : ℕ) (hi : i < n) (apart : i ≢ b) (t' : List ℕ) (o : ℕ)
-        (heads : Heads Cube n t t' i o (makes_test Cube n t i)) (kept : TurnKept Cube n L t t' i o)
-        (unfinished : finished n t i ≡ 0) (fewest : (x : ℕ) → x < n → x ≢ b → finished n t x ≡ 0 → tests_made n t i ≤ tests_made n t x) where
+  -- a grant with its turn
+  module _ {L : ℕ → Bool} (c : Cubic n d) (others : OthersLive n b L) (dead : L b ≡ false) (hb : b < n) {begins : ℕ} {p : Stand}
+      (r : Running Cube n L begins p) (paced : (x : ℕ) → x < n → x ≢ b → Paced n d b p.state.table x) (known : Learned n b Learns need p.state.table)
+    where
+      open grant_of Cube n p use {before as t, board as g, turned as t'}
+      open granted-other r b dead use {below, apart}
+
       abbrev made : ℕ
-      made = tests_made n t i
+      made = tests_made n t g
 
-      few : Few d (row n t i) i b
-      few = few-but n d b L c others t p i hi apart
+      few : Few d (row n t g) g b
+      few = few-but b c others r.plain g below apart
 
-      -- who needs no more tests than i has made knows b
+      -- who needs no more tests than the granted board has made knows b
       nearer-known : (x : ℕ) → x < n → x ≢ b → Learns x → need x ≤ made → suspects n t x b ≡ 1
       nearer-known x hx far s l =
           by_cases (ℕ_discrete (finished n t x) 0)
-          (λ f. known x hx far s (omega (arith, fewest x hx far f)))
-          (λ f. learned-ended x hx far s (omega (arith, f, (p.lines.1 x hx).pass.finished_range)))
+          (λ f. known x hx far s (omega (arith, fewest r b c others x hx far f)))
+          (λ f. learned-ended t paced known x hx far s (has-ended r x hx f))
 
       -- the test at which it learns
-      level-test : makes_test Cube n t i ≡ true → need i ≡ suc made → next_test Cube n t i ≡ 2 ^ made
+      level-test : makes_test Cube n t g ≡ true → need g ≡ suc made → next_test Cube n t g ≡ 2 ^ made
       level-test e here =
-          by_cases (ℕ_discrete (station_at i 1) b)
+          by_cases (ℕ_discrete (station_at g 1) b)
           (λ q.
-          let none : made ≡ 0 = omega (arith, here, way.beside i q) in
-          rw none (first-test n d c t i b few unfinished (paced i hi apart).begins none))
-          (λ q. (pace-test n d c t i b few unfinished q ((paced i hi apart).far q) e).1)
+          let none : made ≡ 0 = omega (arith, here, way.beside g q) in
+          rw none (first-test c t g b few (going r) (paced g below apart).begins none))
+          (λ q. (pace-test c t g b few (going r) q ((paced g below apart).far q) e).1)
 
-      test-teaches : makes_test Cube n t i ≡ true → Learns i → need i ≡ suc made → suspects n t' i b ≡ 1
+      test-teaches : makes_test Cube n t g ≡ true → Learns g → need g ≡ suc made → suspects n t' g b ≡ 1
       test-teaches e s here =
-          let y : ℕ = station_at i (2 ^ made) in
+          let y : ℕ = station_at g (2 ^ made) in
           let small : 2 ^ made < 2 ^ d =
-          omega (arith, pow_pos made, pow_mono {i = suc made} {j = d} (omega (arith, way.most i hi apart s))) in
-          let hy : y < n = omega (arith, c.power, xor_lt d i (2 ^ made) (omega (arith, c.power)) small) in
+          omega (arith, pow_pos made, pow_mono {i = suc made} {j = d} (omega (arith, way.most g below apart s))) in
+          let hy : y < n = omega (arith, c.power, xor_lt d g (2 ^ made) (omega (arith, c.power, below)) small) in
           let at = level-test e here in
-          let tested : Tested n L (Row n t i) (Row n t y) t' i y = rw (at, cube-station Cube n i (2 ^ made) refl) at (kept.tests e) in
+          let tested : Tested n L (Row n t g) (Row n t y) t' g y = rw (at, cube-station Cube n g (2 ^ made) refl) at ((kept r).tests e) in
           by_cases (ℕ_discrete y b)
           (λ q. rw q at (tested.finds (rw q dead)))
           (λ q.
-          let near = way.nearer i made hi apart s here q in
+          let near = way.nearer g made below apart s here q in
           tested.hears (others y hy q) b hb (nearer-known y hy q near.0 near.1))
 
       pub learned-next : Learned n b Learns need t'
       learned-next x hx far s l =
-          by_cases (ℕ_discrete x i)
+          by_cases (ℕ_discrete x g)
           (λ q. rw q (own (rw q at s) (rw q at l)))
           (λ q.
-          let same = heads.others x tests_column q (omega arith) in
-          kept.grows x b hx hb (known x hx far s (omega (arith, same))))
+          let same = (others-same r x q).made in
+          (kept r).grows x b hx hb (known x hx far s (omega (arith, same))))
         where
-          own : Learns i → need i ≤ tests_made n t' i → suspects n t' i b ≡ 1
+          own : Learns g → need g ≤ tests_made n t' g → suspects n t' g b ≡ 1
           own s l =
-              by_cases (dec_le (need i) made)
-              (λ m. kept.grows i b hi hb (known i hi apart s m))
-              (λ m. by_bool (makes_test Cube n t i)
-              (λ e. test-teaches e s (omega (arith, rw e at heads.tests)))
-              (λ e. absurd (omega (arith, rw e at heads.tests))))
+              by_cases (dec_le (need g) made)
+              (λ m. (kept r).grows g b below hb (known g below apart s m))
+              (λ m. by_bool (makes_test Cube n t g)
+              (λ e. test-teaches e s (omega (arith, rw e at (heads r).tests)))
+              (λ e. absurd (omega (arith, rw e at (heads r).tests))))

@@ -18,16 +18,16 @@ use Rattle.table.specs.declared.wiring.Wiring.TheVariants.{Cube}
 use Rattle.station.specs.Groups.{distance, station_at}
 use Rattle.station.specs.Wired.{wired_station}
 use Rattle.station.proofs.WiredLaws.{cube-station}
-use Rattle.plant.specs.Turn.{kind_turn, next_test, makes_test, turn}
+use Rattle.plant.specs.Turn.{next_test, makes_test}
 use Rattle.plant.proofs.NextTest.{test-station}
-use Rattle.granter.specs.Drive.{Stand, granted_at}
-use Rattle.single_crash.proofs.Running.{Running, Crew, chosen, is_live, going, heads}
-use Rattle.witness.proofs.Moves.{finish-bytes, test-bytes}
+use Rattle.granter.specs.Drive.{Stand}
+use Rattle.single_crash.proofs.SweepLaw.{grant_of}
+use Rattle.single_crash.proofs.Running.{Running, going, heads, has-ended, rows-same, rows-tested}
 use Rattle.single_crash.proofs.Heard.{Heard, had, found, told_by_tester, told_by_tested, heard}
 use Rattle.single_crash.proofs.CubeDue.{Few}
 use Rattle.single_crash.proofs.CubePace.{Cubic, few-none, few-but, beside-none, OnPace, pace-test, pace-own}
 use Rattle.single_crash.proofs.CubeWays.{Multiple, turned, power-multiple, distance-beside}
-use Rattle.single_crash.proofs.CubeRun.{OthersLive, cube-crew, fewest, pace-turn, granted-other, more-tests}
+use Rattle.single_crash.proofs.CubeRun.{OthersLive, fewest, pace-turn, granted-other, more-tests}
 
 -- every board but b has made s tests
 abbrev pub AllMade : ℕ → ℕ → ℕ → List ℕ → Type 0
@@ -38,29 +38,14 @@ pub record NearUnaware (n b s : ℕ) (t : List ℕ) : Type 0 where
   pub behind : (z h : ℕ) → z < n → h < s → distance z b ≡ 2 ^ h → suc h ≤ tests_made n t z
   pub aware : (x : ℕ) → x < n → x ≢ b → suspects n t x b ≡ 1 → Multiple b s x × AllMade n b s t
 
-module _ (n d b : ℕ) (L : ℕ → Bool) (c : Cubic n d) (others : OthersLive n b L) (dead : L b ≡ false) (hb : b < n) (begins : ℕ) (p : Stand)
-    (r : Running Cube n L begins p) (pace : (i : ℕ) → i < n → i ≢ b → OnPace n d p.state.table i) (s : ℕ) (some : 1 ≤ s) (le : s ≤ d)
+module _ {n d : ℕ} (b : ℕ) {L : ℕ → Bool} (c : Cubic n d) (others : OthersLive n b L) (dead : L b ≡ false) (hb : b < n) {begins : ℕ} {p : Stand}
+    (r : Running Cube n L begins p) (pace : (i : ℕ) → i < n → i ≢ b → OnPace n d p.state.table i) {s : ℕ} (some : 1 ≤ s) (le : s ≤ d)
     (near : NearUnaware n b s p.state.table) where
-  abbrev t : List ℕ
-  t = p.state.table
-
-  abbrev g : ℕ
-  g = granted_at n p
+  open grant_of Cube n p use {before as t, board as g, turned as t'}
+  open granted-other r b dead use {below, apart}
 
   abbrev made : ℕ
   made = tests_made n t g
-
-  abbrev t' : List ℕ
-  t' = turn Cube n t kind_turn g
-
-  abbrev crew : Crew Cube n L
-  crew = cube-crew n d b L c others
-
-  below : g < n
-  below = (chosen Cube n L crew begins p r).0
-
-  apart : g ≢ b
-  apart = granted-other n d b L c others begins p r dead
 
   -- the board beside b does not suspect it
   beside-clear : station_at g 1 ≡ b → (x : ℕ) → x < n → suspects n t g x ≡ 0
@@ -78,20 +63,20 @@ module _ (n d b : ℕ) (L : ℕ → Bool) (c : Cubic n d) (others : OthersLive n
   module _ (z : ℕ) (few : Few d (row n t g) g z) (far : station_at g 1 ≢ z) where
     own-pace : OnPace n d t g → OnPace n d t' g
     own-pace paced =
-        pace-own n d c t g z few (going Cube n L crew begins p r) t' _ (heads Cube n L crew begins p r) far paced
+        pace-own c t g z few (going r) t' _ (heads r) far paced
 
     own-test : makes_test Cube n t g ≡ true → next_test Cube n t g ≡ 2 ^ made
-    own-test e = (pace-test n d c t g z few (going Cube n L crew begins p r) far (pace g below apart) e).1
+    own-test e = (pace-test c t g z few (going r) far (pace g below apart) e).1
 
   -- by whether it is beside b
   by_place : (C : Type 0) → ((z : ℕ) → Few d (row n t g) g z → station_at g 1 ≢ z → C) → C
   by_place C f =
       by_cases (ℕ_discrete (station_at g 1) b)
-      (λ e. f n (few-none n d c t r.plain.lines g below (beside-clear e)) (beside-none n d c g below))
-      (λ e. f b (few-but n d b L c others t r.plain g below apart) e)
+      (λ e. f n (few-none c t r.plain.lines g below (beside-clear e)) (beside-none c g below))
+      (λ e. f b (few-but b c others r.plain g below apart) e)
 
   pub near-pace : (i : ℕ) → i < n → i ≢ b → OnPace n d t' i
-  near-pace i h q = pace-turn n d b L c others begins p r (by_place (OnPace n d t g → OnPace n d t' g) own-pace) i (pace i h q)
+  near-pace i h q = pace-turn r (by_place (OnPace n d t g → OnPace n d t' g) own-pace) i (pace i h q)
 
   near-test : makes_test Cube n t g ≡ true → next_test Cube n t g ≡ 2 ^ made
   near-test = by_place (makes_test Cube n t g ≡ true → next_test Cube n t g ≡ 2 ^ made) own-test
@@ -100,11 +85,11 @@ module _ (n d b : ℕ) (L : ℕ → Bool) (c : Cubic n d) (others : OthersLive n
   all-made : s ≤ made → AllMade n b s t
   all-made enough z hz q =
       by_cases (ℕ_discrete (finished n t z) 0)
-      (λ f. omega (arith, fewest n d b L c others begins p r z hz q f))
-      (λ f. omega (arith, (pace z hz q).ended (omega (arith, f, (r.plain.lines.1 z hz).pass.finished_range))))
+      (λ f. omega (arith, fewest r b c others z hz q f))
+      (λ f. omega (arith, (pace z hz q).ended (has-ended r z hz f)))
 
   made-on : AllMade n b s t → AllMade n b s t'
-  made-on all z hz q = omega (arith, all z hz q, more-tests n d b L c others begins p r z)
+  made-on all z hz q = omega (arith, all z hz q, more-tests r z)
 
   -- where it has, it exchanges with a board at a multiple of 2^s if it is at one, and with another one if not
   multiple-across : s ≤ made → Multiple b s g → Multiple b s (station_at g (2 ^ made))
@@ -135,19 +120,15 @@ module _ (n d b : ℕ) (L : ℕ → Bool) (c : Cubic n d) (others : OthersLive n
 
   pub near-turn : NearUnaware n b s t'
   near-turn = record {
-    behind = λ z h hz l e. omega (arith, near.behind z h hz l e, more-tests n d b L c others begins p r z);
+    behind = λ z h hz l e. omega (arith, near.behind z h hz l e, more-tests r z);
     aware = λ x hx q one. let was = by_turn x hx q one in (was.0, made-on was.1);
   }
     where
       by_turn : (x : ℕ) → x < n → x ≢ b → suspects n t' x b ≡ 1 → Multiple b s x × AllMade n b s t
       by_turn x hx q one =
-          let live = is_live Cube n L crew begins p r in
-          let unfinished = going Cube n L crew begins p r in
           by_bool (makes_test Cube n t g)
           (λ e.
           let at : wired_station Cube n g (next_test Cube n t g) ≡ station_at g (2 ^ made) =
           cube-station Cube n g (next_test Cube n t g) refl ∙ ap (station_at g) (near-test e) in
-          let bytes = test-bytes Cube n L t g c.size r.plain crew.company below live unfinished e x b hx hb in
-          heard-near _ x at (test-station Cube n t g e r.plain.lines.0 below) (heard n t _ g _ x b (sym bytes ∙ one)) hx q)
-          (λ e. near.aware x hx q
-          (sym (finish-bytes Cube n L t g c.size r.plain crew.company below live unfinished e x b hb) ∙ one))
+          heard-near _ x at (test-station Cube n t g e r.plain.lines.0 below) (heard n t _ g _ x b (sym (rows-tested r e x b hx hb) ∙ one)) hx q)
+          (λ e. near.aware x hx q (sym (rows-same r e x b hb) ∙ one))

@@ -1,35 +1,32 @@
 -- On the cube, the slowest plant before the crash: behind last granted number 4 board 5 has made three turns after 2n + 1 grants, and boards 1 and 4
 -- two, with nobody behind them.
 -- Assumes nothing.
-use mathlib.Core.Path.{◌≡◌, refl, ◌∙◌}
+use mathlib.Core.Path.{◌≡◌, refl}
 use mathlib.Core.Logic.{◌≢◌, by_cases}
 use mathlib.Core.Bool.{true}
 use mathlib.Core.List.{List}
 use Prim.Native.Nat.{ℕ, zero, suc, ◌+◌, ◌*◌, ◌-◌, ◌≤◌, ◌<◌}
-use native.Mathlib.Nat.{mul-suc, suc-mul, mul-zero}
+use native.Mathlib.Nat.{mul-suc, suc-mul}
 use native.Mathlib.Decide.{ℕ_discrete, dec_lt}
 use native.Mathlib.Omega.{arith}
 use borrow.Author.Tests.{ne_eqb}
 use Rattle.lists.specs.Sums.{sum_below}
-use Rattle.lists.proofs.BoolLaws.{by_bool}
-use Rattle.lists.proofs.SumLaws.{sum_by, sum-add, sum-const}
+use Rattle.lists.proofs.SumLaws.{sum-zero, sum-add, sum-const}
 use Rattle.table.specs.declared.wiring.Wiring.TheVariants.{Cube}
 use Rattle.table.specs.Table.{finished}
 use Rattle.table.specs.Rules.{round_over}
-use Rattle.plant.specs.Turn.{kind_turn, turn}
 use Rattle.slots.proofs.Counts.{sum-le}
 use Rattle.granter.specs.Grant.{waits}
 use Rattle.granter.specs.Fairness.{stations_before}
-use Rattle.granter.specs.Drive.{Stand, granted_at, grant_turn, after_grants}
-use Rattle.detection.proofs.RoundKnowledge.{all-finished}
+use Rattle.granter.specs.Drive.{Stand, grant_turn, after_grants}
 use Rattle.single_crash.specs.Sweeps.{turns_made}
-use Rattle.single_crash.proofs.Running.{Crew, Running, chosen, kept, moved, goes_on}
+use Rattle.single_crash.proofs.SweepLaw.{grant_of}
+use Rattle.single_crash.proofs.Running.{Running, chosen, turn-less, live-waits, has-ended, all-ended, left_of, by_round}
 use Rattle.single_crash.proofs.Crashing.{everyone}
-use Rattle.single_crash.proofs.Passes.{turns_left, left-turn}
-use Rattle.single_crash.proofs.OnRing.{left_of}
-use Rattle.single_crash.proofs.RingStages.{at_place, sum-at}
+use Rattle.single_crash.proofs.Passes.{turns_left, at_place, sum-at}
+use Rattle.single_crash.proofs.Running.{left_of}
 use Rattle.single_crash.proofs.CubePace.{Cubic, OnPace}
-use Rattle.single_crash.proofs.CubeWhole.{all_live, full_crew, whole-pace}
+use Rattle.single_crash.proofs.CubeWhole.{all_live, whole-pace}
 use Rattle.single_crash.proofs.CubeOrder.{turns-granted, last-turn, first-turn}
 
 -- after k grants of the first round: nobody has made fewer turns than board 4, or more than board 5
@@ -40,50 +37,35 @@ pub record Opening (n d k : ℕ) (p : Stand) : Type 0 where
   pub lead : (i : ℕ) → i < n → turns_made n p.state.table i ≤ turns_made n p.state.table 5
   pub counted : k + left_of n everyone (λ i. d) p.state.table ≡ n * suc d
 
-module _ (n d : ℕ) (c : Cubic n d) (three : 3 ≤ d) (eight : 8 ≤ n) where
-  module _ (k : ℕ) (p : Stand) (o : Opening n d k p) where
-    abbrev t : List ℕ
-    t = p.state.table
-
-    abbrev g : ℕ
-    g = granted_at n p
-
-    abbrev t' : List ℕ
-    t' = turn Cube n t kind_turn g
-
-    abbrev crew : Crew Cube n everyone
-    crew = full_crew n d c
+module _ {n d : ℕ} (c : Cubic n d) (three : 3 ≤ d) (eight : 8 ≤ n) where
+  module _ {k : ℕ} {p : Stand} (o : Opening n d k p) where
+    open grant_of Cube n p use {before as t, board as g, turned as t'}
 
     below : g < n
-    below = (chosen Cube n everyone crew 5 p o.running).0
+    below = (chosen o.running).0
 
     present : (i : ℕ) → i < n → i ≢ n
     present i h e = omega arith
 
     pace' : (i : ℕ) → i < n → OnPace n d t' i
-    pace' = whole-pace n d c 5 p o.running o.pace
+    pace' = whole-pace c o.running o.pace
 
     one-less : suc (left_of n everyone (λ i. d) t') ≡ left_of n everyone (λ i. d) t
     one-less =
-        let m = moved Cube n everyone crew 5 p o.running in
-        left-turn n everyone (λ i. d) (turns_made n t) (turns_made n t') g below refl
-        (turns-granted n d n everyone c (all_live n d c) (omega arith) p o.running (λ i h q. o.pace i h) (present g below)) m.own m.others
+        turn-less o.running (λ i. d)
+        (turns-granted n c (all_live n) (omega arith) o.running (λ i h q. o.pace i h) (present g below))
 
     -- a round that closes has no turn left
     none-left : round_over n t' ≡ true → left_of n everyone (λ i. d) t' ≡ 0
     unfolding turns_left
     none-left over =
-        let plain = (kept Cube n everyone crew 5 p o.running).plain in
-        let each : (i : ℕ) → i < n → turns_left everyone (λ i. d) (turns_made n t') i ≡ 0 =
-        λ i h. let f = all-finished Cube n everyone t' plain over i h refl in omega (arith, f, (pace' i h).ended f) in
-        sum_by n each ∙ (sum-const 0 n ∙ mul-zero n)
+        sum-zero n (λ i h. let f = all-ended o.running over i h refl in omega (arith, f, (pace' i h).ended f))
 
     opening-next : suc k < n * suc d → Opening n d (suc k) (grant_turn Cube n p)
     opening-next more =
-        by_bool (round_over n t')
-        (λ over. absurd (omega (arith, none-left over, one-less, o.counted)))
-        (λ on.
-        let w = goes_on Cube n everyone crew 5 p o.running on in
+        by_round o.running
+        (λ over w. absurd (omega (arith, none-left over, one-less, o.counted)))
+        (λ on w.
         let five : 5 < n = omega arith in
         let pace : (i : ℕ) → i < n → i ≢ n → OnPace n d t i = λ i h q. o.pace i h in
         let apart = present g below in
@@ -91,19 +73,19 @@ module _ (n d : ℕ) (c : Cubic n d) (three : 3 ≤ d) (eight : 8 ≤ n) where
           running = w.running;
           pace = rw w.table pace';
           lag = rw w.table (λ i h.
-              last-turn n d n everyone c (all_live n d c) five p o.running pace (present 4 (omega arith)) (λ i h q. o.lag i h) i h (present i h));
+              last-turn n c (all_live n) five o.running pace (present 4 (omega arith)) (λ i h q. o.lag i h) i h (present i h));
           lead = rw w.table (λ i h.
-              first-turn n d n everyone c (all_live n d c) five p o.running pace (present 5 five) apart (λ i h q. o.lead i h) i h (present i h));
+              first-turn n c (all_live n) five o.running pace (present 5 five) apart (λ i h q. o.lead i h) i h (present i h));
           counted = rw w.table (omega (arith, one-less, o.counted));
         })
 
-  pub opening-after : (p : Stand) (k : ℕ) → k < n * suc d → Opening n d 0 p → Opening n d k (after_grants Cube n p k)
+  pub opening-after : {p : Stand} (k : ℕ) → k < n * suc d → Opening n d 0 p → Opening n d k (after_grants Cube n p k)
   unfolding after_grants
-  opening-after p zero more o = o
-  opening-after p (suc k) more o = opening-next k _ (opening-after p k (omega arith) o) more
+  opening-after zero more o = o
+  opening-after (suc k) more o = opening-next (opening-after k (omega arith) o) more
 
   -- after 2n + 1 grants
-  module _ (p : Stand) (o : Opening n d (2 * n + 1) p) where
+  module _ {p : Stand} (o : Opening n d (2 * n + 1) p) where
     abbrev u : List ℕ
     u = p.state.table
 
@@ -144,10 +126,9 @@ module _ (n d : ℕ) (c : Cubic n d) (three : 3 ≤ d) (eight : 8 ≤ n) where
 
     -- board 4 has not finished, so that the others have made a turn more at the most
     last-waits : waits n u 4 ≡ true
-    unfolding waits
-    last-waits =
-        let going : finished n u 4 ≢ 1 = λ f. omega (arith, low, f, (o.pace 4 (omega arith)).ended f) in
-        rw (o.running.plain.lives 4 (omega arith), ne_eqb (finished n u 4) 1 going) refl
+    last-waits = live-waits o.running 4 (omega arith) refl
+        (by_cases (ℕ_discrete (finished n u 4) 0) (λ f. f)
+        (λ f. let one = has-ended o.running 4 (omega arith) f in absurd (omega (arith, low, one, (o.pace 4 (omega arith)).ended one))))
 
     high : (i : ℕ) → i < n → turns_made n u i ≤ suc (turns_made n u 4)
     high i h =

@@ -2,22 +2,20 @@
 -- Assumes nothing.
 use mathlib.Core.Path.{◌≡◌, refl, sym, ap, ◌∙◌}
 use mathlib.Core.Logic.{◌≢◌, by_cases}
-use mathlib.Core.Bool.{Bool, true}
-use mathlib.Core.List.{List}
+use mathlib.Core.Bool.{Bool}
 use Prim.Native.Nat.{ℕ, suc, ◌-◌, ◌≤◌, ◌<◌}
 use native.Mathlib.Decide.{ℕ_discrete}
 use native.Mathlib.Omega.{arith}
 use Rattle.table.specs.Table.{finished}
 use Rattle.table.specs.declared.wiring.Wiring.TheVariants.{Cube}
-use Rattle.plant.specs.Turn.{kind_turn, turn}
-use Rattle.granter.specs.Grant.{waits}
 use Rattle.granter.specs.Fairness.{stations_before}
-use Rattle.granter.specs.Drive.{Stand, granted_at}
+use Rattle.granter.specs.Drive.{Stand}
 use Rattle.single_crash.specs.Sweeps.{turns_made}
-use Rattle.single_crash.proofs.Sweeps.{place-below, place-one, sweep-first}
-use Rattle.single_crash.proofs.Running.{Crew, Running, chosen, going, moved, next}
+use Rattle.single_crash.proofs.Sweeps.{place-below, place-one}
+use Rattle.single_crash.proofs.SweepLaw.{grant_of}
+use Rattle.single_crash.proofs.Running.{Running, chosen, going, moved, grant-first, live-waits, has-ended}
 use Rattle.single_crash.proofs.CubePace.{Cubic, OnPace}
-use Rattle.single_crash.proofs.CubeRun.{OthersLive, cube-crew, fewest-turns}
+use Rattle.single_crash.proofs.CubeRun.{OthersLive, fewest-turns}
 
 place-first : (n : ℕ) → stations_before n 5 5 ≡ 0
 unfolding stations_before
@@ -27,51 +25,38 @@ pub place-last : (n : ℕ) → 5 ≤ n → stations_before n 5 4 ≡ n - 1
 unfolding stations_before
 place-last n h = omega arith
 
-module _ (n d b : ℕ) (L : ℕ → Bool) (c : Cubic n d) (others : OthersLive n b L) (five : 5 < n) (p : Stand) (r : Running Cube n L 5 p)
+module _ {n d : ℕ} (b : ℕ) {L : ℕ → Bool} (c : Cubic n d) (others : OthersLive n b L) (five : 5 < n) {p : Stand} (r : Running Cube n L 5 p)
     (pace : (i : ℕ) → i < n → i ≢ b → OnPace n d p.state.table i) where
-  abbrev t : List ℕ
-  t = p.state.table
-
-  abbrev g : ℕ
-  g = granted_at n p
-
-  abbrev t' : List ℕ
-  t' = turn Cube n t kind_turn g
-
-  abbrev crew : Crew Cube n L
-  crew = cube-crew n d b L c others
+  open grant_of Cube n p use {before as t, board as g, turned as t'}
 
   below : g < n
-  below = (chosen Cube n L crew 5 p r).0
+  below = (chosen r).0
 
   -- a board that has finished has made d + 1 turns
   pub turns-ended : (i : ℕ) → i < n → i ≢ b → finished n t i ≢ 0 → turns_made n t i ≡ suc d
   turns-ended i h q f =
-      let one : finished n t i ≡ 1 = omega (arith, f, (r.plain.lines.1 i h).pass.finished_range) in
+      let one = has-ended r i h f in
       omega (arith, one, (pace i h q).ended one)
 
   -- and the granted one fewer
   pub turns-granted : g ≢ b → turns_made n t g ≤ d
   turns-granted q =
-      let zero = going Cube n L crew 5 p r in
+      let zero = going r in
       omega (arith, zero, ((pace g below q).going zero).0)
 
   -- of those that have made as many as the granted one it comes first
   first-of : (i : ℕ) → i < n → i ≢ b → finished n t i ≡ 0 → turns_made n t g ≡ turns_made n t i → stations_before n 5 g ≤ stations_before n 5 i
-  unfolding waits
-  first-of i h q f e =
-      let waiting : waits n t i ≡ true = rw (r.plain.lives i h ∙ others i h q, f) refl in
-      sweep-first n 5 (waits n t) (turns_made n t) p.last g r.fits r.sweep (next Cube n L crew 5 p r) i h waiting e
+  first-of i h q f e = grant-first r i h (live-waits r i h (others i h q) f) e
 
   own-turn : (i : ℕ) → g ≡ i → turns_made n t' i ≡ suc (turns_made n t i)
   own-turn i e =
-      ap (turns_made n t') (sym e) ∙ ((moved Cube n L crew 5 p r).own ∙ ap (λ (x : ℕ). suc (turns_made n t x)) e)
+      ap (turns_made n t') (sym e) ∙ ((moved r).own ∙ ap (λ (x : ℕ). suc (turns_made n t x)) e)
 
   -- nobody has made fewer turns than board 4
   pub last-turn : 4 ≢ b → ((i : ℕ) → i < n → i ≢ b → turns_made n t 4 ≤ turns_made n t i)
       → (i : ℕ) → i < n → i ≢ b → turns_made n t' 4 ≤ turns_made n t' i
   last-turn four lag i h q =
-      let m = moved Cube n L crew 5 p r in
+      let m = moved r in
       by_cases (ℕ_discrete i 4) (λ e. rw e (omega arith))
       (λ e.
       by_cases (ℕ_discrete g 4)
@@ -97,7 +82,7 @@ module _ (n d b : ℕ) (L : ℕ → Bool) (c : Cubic n d) (others : OthersLive n
   pub first-turn : 5 ≢ b → g ≢ b → ((i : ℕ) → i < n → i ≢ b → turns_made n t i ≤ turns_made n t 5)
       → (i : ℕ) → i < n → i ≢ b → turns_made n t' i ≤ turns_made n t' 5
   first-turn five_other g_other lead i h q =
-      let m = moved Cube n L crew 5 p r in
+      let m = moved r in
       by_cases (ℕ_discrete g 5)
       (λ at.
       by_cases (ℕ_discrete i 5) (λ e. rw e (omega arith))
@@ -113,7 +98,7 @@ module _ (n d b : ℕ) (L : ℕ → Bool) (c : Cubic n d) (others : OthersLive n
       (λ eq.
       let first = first-of 5 five five_other f eq in
       absurd (at (place-one n 5 g 5 (omega arith) below five (omega (arith, first, place-first n)))))
-      (λ eq. omega (arith, fewest-turns n d b L c others 5 p r 5 five five_other f, eq)))
+      (λ eq. omega (arith, fewest-turns r b c others 5 five five_other f, eq)))
       (λ f. omega (arith, turns-ended 5 five five_other f, turns-granted g_other)) in
       omega (arith, own-turn i (sym e), same, fewer, ap (turns_made n t) e))
       (λ e. omega (arith, m.others i h e, same, lead i h q)))

@@ -30,6 +30,7 @@ use Rattle.plant.proofs.StepLines.{Lines}
 use Rattle.plant.proofs.TurnHeads.{Heads}
 use Rattle.detection.proofs.TestsDue.{row-unsuspected}
 use Rattle.detection.proofs.TurnEffect.{Plain}
+use Rattle.single_crash.proofs.Running.{SamePass}
 use Rattle.single_crash.proofs.CubeDue.{pace, pace_zero, pace_suc, Few, next-level, next-none, next-first}
 
 -- a size of 2^d boards, 4 at least
@@ -39,15 +40,15 @@ pub record Cubic (n d : ℕ) : Type 0 where
   pub levels : 2 ≤ d
 
 -- its end distance
-end-power : (n d : ℕ) → Cubic n d → end_distance Cube n ≡ 2 ^ d
-end-power n d c =
+end-power : {n d : ℕ} → Cubic n d → end_distance Cube n ≡ 2 ^ d
+end-power {n = n} {d = d} c =
     let most = distances-le d n (omega (arith, c.power)) in
     end-cube n ∙ omega (arith, (size-distances n c.size).0, c.power, most)
 
 -- a row that suspects nobody suspects at most an absent board, which is beside nobody
-pub few-none : (n d : ℕ) → Cubic n d → (t : List ℕ) → Lines Cube n t → (i : ℕ) → i < n → ((x : ℕ) → x < n → suspects n t i x ≡ 0)
+pub few-none : {n d : ℕ} → Cubic n d → (t : List ℕ) → Lines Cube n t → (i : ℕ) → i < n → ((x : ℕ) → x < n → suspects n t i x ≡ 0)
     → Few d (row n t i) i n
-few-none n d c t lines i hi none = record {
+few-none {n = n} {d = d} c t lines i hi none = record {
   long = row-length n t i lines.0 hi ∙ c.power;
   here = omega (arith, c.power);
   apart = omega arith;
@@ -56,14 +57,14 @@ few-none n d c t lines i hi none = record {
       row-unsuspected n t i x lines.0 hi hx ∙ eq-eqb (suspects n t i x) 0 (none x hx);
 }
 
-pub beside-none : (n d : ℕ) → Cubic n d → (i : ℕ) → i < n → station_at i 1 ≢ n
-beside-none n d c i hi e =
+pub beside-none : {n d : ℕ} → Cubic n d → (i : ℕ) → i < n → station_at i 1 ≢ n
+beside-none {d = d} c i hi e =
     omega (arith, e, c.power, xor_lt d i 1 (omega (arith, c.power)) (omega (arith, pow_mono {i = 1} {j = d} (omega (arith, c.levels)))))
 
 -- where all but b are live and no live board suspects a live one, rows suspect b at most
-pub few-but : (n d b : ℕ) (L : ℕ → Bool) → Cubic n d → ((x : ℕ) → x < n → x ≢ b → L x ≡ true) → (t : List ℕ) → Plain Cube n L t
+pub few-but : {n d : ℕ} (b : ℕ) {L : ℕ → Bool} {t : List ℕ} → Cubic n d → ((x : ℕ) → x < n → x ≢ b → L x ≡ true) → Plain Cube n L t
     → (i : ℕ) → i < n → i ≢ b → Few d (row n t i) i b
-few-but n d b L c others t p i hi apart = record {
+few-but {n = n} {d = d} b {t = t} c others p i hi apart = record {
   long = row-length n t i p.lines.0 hi ∙ c.power;
   here = omega (arith, c.power);
   apart = apart;
@@ -87,35 +88,33 @@ pub record Paced (n d b : ℕ) (t : List ℕ) (i : ℕ) : Type 0 where
   pub far : station_at i 1 ≢ b → OnPace n d t i
   pub begins : Begins n t i
 
-pace-begins : (n d : ℕ) → Cubic n d → (t : List ℕ) (i : ℕ) → OnPace n d t i → Begins n t i
-pace-begins n d c t i p = record { first = λ f z. rw z at (p.going f).1 ∙ pace_zero; some = λ f. omega (arith, p.ended f, c.levels) }
+pace-begins : {n d : ℕ} {t : List ℕ} {i : ℕ} → Cubic n d → OnPace n d t i → Begins n t i
+pace-begins c p = record { first = λ f z. rw z at (p.going f).1 ∙ pace_zero; some = λ f. omega (arith, p.ended f, c.levels) }
 
-pub pace-paced : (n d b : ℕ) → Cubic n d → (t : List ℕ) (i : ℕ) → OnPace n d t i → Paced n d b t i
-pace-paced n d b c t i p = record { far = λ _. p; begins = pace-begins n d c t i p }
+pub pace-paced : {n d : ℕ} (b : ℕ) {t : List ℕ} {i : ℕ} → Cubic n d → OnPace n d t i → Paced n d b t i
+pace-paced b c p = record { far = λ _. p; begins = pace-begins c p }
 
 -- at the start of a round
-pub pace-start : (n d : ℕ) (t : List ℕ) (i : ℕ) → Reset n t i → OnPace n d t i
-pace-start n d t i r = record {
+pub pace-start : {n : ℕ} (d : ℕ) {t : List ℕ} {i : ℕ} → Reset n t i → OnPace n d t i
+pace-start d r = record {
   going = λ f. (omega (arith, r.untested), rw r.untested (r.next ∙ sym pace_zero));
   ended = λ f. absurd (omega (arith, r.unfinished));
 }
 
 -- a line of which no such byte changes
-pub pace-same : (n d : ℕ) (t t' : List ℕ) (i : ℕ) → finished n t' i ≡ finished n t i → tests_made n t' i ≡ tests_made n t i
-    → next_distance n t' i ≡ next_distance n t i → OnPace n d t i → OnPace n d t' i
-pace-same n d t t' i f m x p = record { going = rw (f, m, x) p.going; ended = rw (f, m) p.ended }
+pub pace-same : {n d : ℕ} {t t' : List ℕ} {i : ℕ} → SamePass n t t' i → OnPace n d t i → OnPace n d t' i
+pace-same s p = record { going = rw (s.done, s.made, s.next) p.going; ended = rw (s.done, s.made) p.ended }
 
-pub paced-same : (n d b : ℕ) (t t' : List ℕ) (i : ℕ) → finished n t' i ≡ finished n t i → tests_made n t' i ≡ tests_made n t i
-    → next_distance n t' i ≡ next_distance n t i → Paced n d b t i → Paced n d b t' i
-paced-same n d b t t' i f m x p = record {
-  far = λ far. pace-same n d t t' i f m x (p.far far);
-  begins = record { first = rw (f, m, x) p.begins.first; some = rw (f, m) p.begins.some };
+pub paced-same : {n d b : ℕ} {t t' : List ℕ} {i : ℕ} → SamePass n t t' i → Paced n d b t i → Paced n d b t' i
+paced-same s p = record {
+  far = λ far. pace-same s (p.far far);
+  begins = record { first = rw (s.done, s.made, s.next) p.begins.first; some = rw (s.done, s.made) p.begins.some };
 }
 
 -- the own turn of board i, which suspects board z at most
-module _ (n d : ℕ) (c : Cubic n d) (t : List ℕ) (i z : ℕ) (few : Few d (row n t i) i z) where
+module _ {n d : ℕ} (c : Cubic n d) (t : List ℕ) (i z : ℕ) (few : Few d (row n t i) i z) where
   end : end_distance Cube n ≡ 2 ^ d
-  end = end-power n d c
+  end = end-power c
 
   -- the next test of a board that has made τ tests
   test-at : (τ : ℕ) → τ < d → station_at i 1 ≢ z → next_distance n t i ≡ pace τ → next_test Cube n t i ≡ 2 ^ τ

@@ -11,45 +11,38 @@ use native.Mathlib.Decide.{ℕ_discrete}
 use native.Mathlib.Omega.{arith}
 use borrow.Author.Tests.{ne_eqb}
 use lib.Bits.{bit_xor}
-use lib.ListN.{get_or}
 use lib.Pow.{pow_mono}
-use Rattle.lists.specs.Search.{list_of}
-use Rattle.lists.specs.Sums.{bit}
 use Rattle.lists.proofs.BoolLaws.{by_bool}
-use Rattle.lists.proofs.SearchLaws.{list_of-at}
 use Rattle.lists.proofs.SumLaws.{sum_by, sum-add, sum-const}
 use Rattle.lists.proofs.Xor.{xor-undo}
 use Rattle.table.specs.Sizes.{is_size}
 use Rattle.table.specs.declared.wiring.Wiring.TheVariants.{Cube}
-use Rattle.table.specs.Table.{head, stride, cell, next_column, finished_column, tests_column, finished, tests_made, suspects, live}
-use Rattle.table.specs.Rules.{not_live, round_over}
+use Rattle.table.specs.Table.{head, finished, tests_made, suspects}
+use Rattle.table.specs.Rules.{round_over}
 use Rattle.table.specs.Fresh.{fresh_table}
-use Rattle.table.specs.Properties.{exact_row}
-use Rattle.table.proofs.CellLaws.{row_at}
 use Rattle.station.specs.Groups.{distance}
-use Rattle.plant.specs.Turn.{kind_turn, turn, crash}
+use Rattle.plant.specs.Turn.{crash}
 use Rattle.plant.specs.Entry.{state_of}
 use Rattle.plant.proofs.RoundLaws.{reset-other}
 use Rattle.slots.proofs.Counts.{sum-le}
 use Rattle.granter.specs.Grant.{following}
-use Rattle.granter.specs.Drive.{Stand, stand_at, granted_at, grant_turn, after_grants}
+use Rattle.granter.specs.Drive.{Stand, stand_at, grant_turn, after_grants}
 use Rattle.granter.proofs.GrantLaws.{station-fits}
-use Rattle.detection.proofs.RoundKnowledge.{all-finished}
 use Rattle.single_crash.specs.Sweeps.{turns_made}
 use Rattle.single_crash.specs.Setting.{Sound, crash_at, behind_crash, KnownDead}
 use Rattle.single_crash.specs.Cube.{CubeNoFewerGrants, CubeNoFewerRounds}
-use Rattle.single_crash.proofs.Running.{Crew, Running, chosen, is_live, kept, heads, moved, closes, goes_on, begin}
-use Rattle.single_crash.proofs.Crashing.{everyone, crash-plain, crash-same, crash-goes_on, crash-turns}
-use Rattle.single_crash.proofs.Passes.{turns_left, left-turn}
-use Rattle.single_crash.proofs.RingStages.{at_place, sum-at}
+use Rattle.single_crash.proofs.SweepLaw.{grant_of}
+use Rattle.single_crash.proofs.Running.{Crew, Running, closes, goes_on, turn-less, has-ended, all-ended, others-same, by_round, SamePass}
+use Rattle.single_crash.proofs.Crashing.{everyone, but-dead, but-apart, sound-fresh, sound-run, crash-same, crash-goes_on, crash-turns, stays-open}
+use Rattle.single_crash.proofs.Crashing.{not-known, crash-pass}
+use Rattle.single_crash.proofs.Passes.{turns_left, at_place, sum-at}
 use Rattle.single_crash.proofs.FreshSound.{fresh-is-sound}
 use Rattle.single_crash.proofs.CubePace.{Cubic, OnPace, pace-start, pace-same, pace-paced}
-use Rattle.single_crash.proofs.CubeRun.{OthersLive, cube-crew, granted-other}
+use Rattle.single_crash.proofs.CubeRun.{OthersLive, granted-other}
 use Rattle.single_crash.proofs.CubeNear.{NearUnaware, near-pace, near-turn}
-use Rattle.single_crash.proofs.CubeStages.{but-others, but-dead, but-apart, left_with}
+use Rattle.single_crash.proofs.CubeStages.{but-others, but-crew, left_with}
 use Rattle.single_crash.proofs.CubeCrash.{enough}
-use Rattle.single_crash.proofs.CubeWhole.{full_crew}
-use Rattle.single_crash.proofs.CubeKnown.{sound-cubic, sound-plain, sound-fresh}
+use Rattle.single_crash.proofs.CubeKnown.{sound-cubic}
 use Rattle.single_crash.proofs.CubeOrder.{turns-ended, turns-granted, last-turn}
 use Rattle.single_crash.proofs.CubeOpening.{Opening, opening-after, last-two, first-three, dying-two}
 use Rattle.single_crash.proofs.CubeLate.{L, Late, left_of_three, few-turns, late-less, late-open, late-next, late-unaware}
@@ -71,73 +64,52 @@ behind-four : following 4 ≡ 5
 unfolding following
 behind-four = refl
 
-module _ (n d : ℕ) (c : Cubic n d) (three : 3 ≤ d) (eight : 8 ≤ n) where
+module _ {n d : ℕ} (c : Cubic n d) (three : 3 ≤ d) (eight : 8 ≤ n) where
   abbrev others : OthersLive n 1 L
   others = but-others n 1
 
-  abbrev crew : Crew Cube n L
-  crew = cube-crew n d 1 L c others
-
-  module _ (p : Stand) (o : Rest n d p) where
-    abbrev t : List ℕ
-    t = p.state.table
-
-    abbrev g : ℕ
-    g = granted_at n p
-
-    abbrev t' : List ℕ
-    t' = turn Cube n t kind_turn g
-
-    abbrev p' : Stand
-    p' = grant_turn Cube n p
-
-    below : g < n
-    below = (chosen Cube n L crew 5 p o.running).0
-
-    apart : g ≢ 1
-    apart = granted-other n d 1 L c others 5 p o.running (but-dead 1)
+  module _ {p : Stand} (o : Rest n d p) where
+    open grant_of Cube n p use {before as t, board as g, turned as t', stand as p'}
+    open granted-other o.running 1 (but-dead 1) use {below, apart}
 
     granted-most : turns_made n t g ≤ d
-    granted-most = turns-granted n d 1 L c others (omega arith) p o.running o.pace apart
+    granted-most = turns-granted 1 c others (omega arith) o.running o.pace apart
 
     rest-less : suc (left_with n d 1 3 t') ≡ left_with n d 1 3 t
-    rest-less =
-        let m = moved Cube n L crew 5 p o.running in
-        left-turn n L (λ i. d + 3) (turns_made n t) (turns_made n t') g below (is_live Cube n L crew 5 p o.running)
-        (omega (arith, granted-most)) m.own m.others
+    rest-less = turn-less o.running (λ i. d + 3) (omega (arith, granted-most))
 
     pace' : (i : ℕ) → i < n → i ≢ 1 → OnPace n d t' i
-    pace' = near-pace n d 1 L c others (but-dead 1) (omega arith) 5 p o.running o.pace 3 (omega arith) three o.near
+    pace' = near-pace 1 c others (but-dead 1) (omega arith) o.running o.pace (omega arith) three o.near
 
     near' : NearUnaware n 1 3 t'
-    near' = near-turn n d 1 L c others (but-dead 1) (omega arith) 5 p o.running o.pace 3 (omega arith) three o.near
+    near' = near-turn 1 c others (but-dead 1) (omega arith) o.running o.pace (omega arith) three o.near
 
     lag' : (i : ℕ) → i < n → i ≢ 1 → turns_made n t' 4 ≤ turns_made n t' i
-    lag' = last-turn n d 1 L c others (omega arith) p o.running o.pace (λ q. omega arith) o.lag
+    lag' = last-turn 1 c others (omega arith) o.running o.pace (λ q. omega arith) o.lag
 
     rest-on : round_over n t' ≡ false → Rest n d p'
     rest-on on =
-        let w = goes_on Cube n L crew 5 p o.running on in
+        let w = goes_on o.running on in
         record { running = w.running; pace = rw w.table pace'; near = rw w.table near'; lag = rw w.table lag' }
 
     module _ (over : round_over n t' ≡ true) where
       ended : (i : ℕ) → i < n → i ≢ 1 → finished n t' i ≡ 1
-      ended i h q = all-finished Cube n L t' (kept Cube n L crew 5 p o.running).plain over i h (others i h q)
+      ended i h q = all-ended o.running over i h (others i h q)
 
       -- the round closes with a turn of board 4
       closer : g ≡ 4
       closer =
           by_cases (ℕ_discrete g 4) (λ e. e)
           (λ e.
-          let same = (heads Cube n L crew 5 p o.running).others 4 finished_column (λ q. e (sym q)) (omega arith) in
+          let same = (others-same o.running 4 (λ q. e (sym q))).done in
           let last = ended 4 (omega arith) (λ q. omega arith) in
           let going_not : finished n t 4 ≢ 0 = λ z. omega (arith, z, same, last) in
-          let all = turns-ended n d 1 L c others (omega arith) p o.running o.pace 4 (omega arith) (λ q. omega arith) going_not in
+          let all = turns-ended 1 c others (omega arith) o.running o.pace 4 (omega arith) (λ q. omega arith) going_not in
           absurd (omega (arith, all, o.lag g below apart, granted-most)))
 
       row-same : (x : ℕ) → suspects n p'.state.table x 1 ≡ suspects n t' x 1
       row-same x =
-          rw (closes Cube n L crew 5 p o.running over).table
+          rw (closes o.running over).table
           (reset-other n t' x (head + 1) (omega arith) (λ q. omega arith))
 
       unaware' : (x : ℕ) → x < n → x ≢ 1 → suspects n p'.state.table x 1 ≡ 1 → distance x 1 % 2 ^ 3 ≡ 0
@@ -145,13 +117,13 @@ module _ (n d : ℕ) (c : Cubic n d) (three : 3 ≤ d) (eight : 8 ≤ n) where
 
       rest-over : Late n d p'
       rest-over =
-          let w = closes Cube n L crew 5 p o.running over in
+          let w = closes o.running over in
           let run : Running Cube n L (following 4) p' = subst (λ (x : ℕ). Running Cube n L (following x) p') closer w.running in
           let zero = w.fresh 0 (omega arith) in
           let not_one : suspects n p'.state.table 4 1 ≢ 1 = λ one. omega (arith, unaware' 4 (omega arith) (λ q. omega arith) one) in
           record {
             running = rw behind-four at run;
-            paced = λ i h q. pace-paced n d 1 c _ i (pace-start n d _ i (w.fresh i h));
+            paced = λ i h q. pace-paced 1 c (pace-start d (w.fresh i h));
             early = record {
               going = λ l. zero.unfinished;
               next = λ l. omega (arith, zero.next, zero.untested, zero.unfinished);
@@ -164,7 +136,7 @@ module _ (n d : ℕ) (c : Cubic n d) (three : 3 ≤ d) (eight : 8 ≤ n) where
       rest-left : left_of_three n p'.state.table ≡ left_with n d 1 3 t'
       unfolding turns_left
       rest-left =
-          let w = closes Cube n L crew 5 p o.running over in
+          let w = closes o.running over in
           sum_by n (λ i h. by_bool (L i)
           (λ l.
           let q = but-apart 1 i l in
@@ -174,21 +146,19 @@ module _ (n d : ℕ) (c : Cubic n d) (three : 3 ≤ d) (eight : 8 ≤ n) where
 
   slow-next : (round m : ℕ) → 1 ≤ m → (p : Stand) → Slow n d round (suc m) p → Slow n d round m (grant_turn Cube n p)
   slow-next round m some p (resting o e left) =
-      by_bool (round_over n (turn Cube n p.state.table kind_turn (granted_at n p)))
-      (λ over.
-      let w = closes Cube n L crew 5 p o.running over in
-      late (rest-over p o over) (omega (arith, w.rounds, e)) (omega (arith, rest-left p o over, rest-less p o, left)))
-      (λ on.
-      let w = goes_on Cube n L crew 5 p o.running on in
-      resting (rest-on p o on) (w.rounds ∙ e) (rw w.table (omega (arith, rest-less p o, left))))
+      by_round o.running
+      (λ over w.
+      late (rest-over o over) (omega (arith, w.rounds, e)) (omega (arith, rest-left o over, rest-less o, left)))
+      (λ on w.
+      resting (rest-on o on) (w.rounds ∙ e) (rw w.table (omega (arith, rest-less o, left))))
   slow-next round m some p (late o e left) =
-      let few = few-turns n d c three eight p o (omega (arith, left)) in
-      let less = late-less n d c three eight p o few in
-      let on = late-open n d c three eight p o (omega (arith, less, left)) in
-      let w = goes_on Cube n L crew 5 p o.running on in
-      late (late-next n d c three eight p o on) (w.rounds ∙ e) (rw w.table (omega (arith, less, left)))
+      let few = few-turns c three eight o (omega (arith, left)) in
+      let less = late-less c three eight o few in
+      let on = late-open c three eight o (omega (arith, less, left)) in
+      let w = goes_on o.running on in
+      late (late-next c three eight o on) (w.rounds ∙ e) (rw w.table (omega (arith, less, left)))
 
-  pub slow-after : (round m k : ℕ) → 1 ≤ m → (p : Stand) → Slow n d round (m + k) p → Slow n d round m (after_grants Cube n p k)
+  slow-after : (round m k : ℕ) → 1 ≤ m → (p : Stand) → Slow n d round (m + k) p → Slow n d round m (after_grants Cube n p k)
   unfolding after_grants
   slow-after round m zero some p s = let e : m + 0 ≡ m = omega arith in rw e at s
   slow-after round m (suc k) some p s =
@@ -196,7 +166,7 @@ module _ (n d : ℕ) (c : Cubic n d) (three : 3 ≤ d) (eight : 8 ≤ n) where
       slow-next round m some _ (slow-after round (suc m) k (omega arith) p (rw e at s))
 
   -- one grant before the last one board 4 does not know it, and the second round has begun
-  pub slow-end : (round : ℕ) (p : Stand) → Slow n d round 1 p → (suspects n p.state.table 4 1 ≡ 0) × (suc round ≤ p.state.rounds)
+  slow-end : (round : ℕ) (p : Stand) → Slow n d round 1 p → (suspects n p.state.table 4 1 ≡ 0) × (suc round ≤ p.state.rounds)
   unfolding turns_left
   slow-end round p (resting o e left) =
       let each : (i : ℕ) → i < n → at_place 4 3 i ≤ turns_left L (λ i. d + 3) (turns_made n p.state.table) i =
@@ -206,15 +176,15 @@ module _ (n d : ℕ) (c : Cubic n d) (three : 3 ≤ d) (eight : 8 ≤ n) where
       let most : turns_made n p.state.table 4 ≤ suc d =
       by_cases (ℕ_discrete (finished n p.state.table 4) 0) (λ f. omega (arith, f, (paced.going f).0))
       (λ f.
-      let one : finished n p.state.table 4 ≡ 1 = omega (arith, f, (o.running.plain.lines.1 4 (omega arith)).pass.finished_range) in
+      let one = has-ended o.running 4 (omega arith) f in
       omega (arith, one, paced.ended one)) in
       rw q (omega (arith, most)))
       (λ q. rw (ne_eqb i 4 q) (omega arith)) in
       absurd (omega (arith, left, sum-le n each, sum-at n 4 3 (omega arith)))
-  slow-end round p (late o e left) = (late-unaware n d c three eight p o (omega (arith, left)), omega (arith, e))
+  slow-end round p (late o e left) = (late-unaware c three eight o (omega (arith, left)), omega (arith, e))
 
 -- the crash behind 2n + 1 grants
-module _ (n d : ℕ) (c : Cubic n d) (three : 3 ≤ d) (eight : 8 ≤ n) (q : Stand) (o : Opening n d (2 * n + 1) q) where
+module _ {n d : ℕ} (c : Cubic n d) (three : 3 ≤ d) (eight : 8 ≤ n) {q : Stand} (o : Opening n d (2 * n + 1) q) where
   abbrev u : List ℕ
   u = q.state.table
 
@@ -224,35 +194,29 @@ module _ (n d : ℕ) (c : Cubic n d) (three : 3 ≤ d) (eight : 8 ≤ n) (q : St
   abbrev q' : Stand
   q' = crash_at Cube n q 1
 
-  abbrev team : Crew Cube n L
-  team = crew n d c three eight
+  team : Crew Cube n L
+  team = but-crew 1 c
 
   two : turns_made n u 4 ≡ 2
-  two = last-two n d c three eight q o
+  two = last-two c three eight o
 
-  bytes : (k j : ℕ) → 1 ≤ j → j < stride n → cell n v k j ≡ cell n u k j
-  bytes = crash-same Cube n 1 5 q team (omega arith) o.running
+  same-pass : (i : ℕ) → SamePass n u v i
+  same-pass = crash-pass 1 team (omega arith) o.running
 
   -- boards that have made two turns, or three, have made as many tests
   made-tests : (i m : ℕ) → i < n → m ≤ 3 → m ≤ turns_made n u i → m ≤ tests_made n u i
   made-tests i m h few l =
       by_cases (ℕ_discrete (finished n u i) 0) (λ f. omega (arith, f))
       (λ f.
-      let one : finished n u i ≡ 1 = omega (arith, f, (o.running.plain.lines.1 i h).pass.finished_range) in
+      let one = has-ended o.running i h f in
       omega (arith, (o.pace i h).ended one))
 
   -- the round does not close
   crash-on : round_over n v ≡ false
-  crash-on =
-      by_bool (round_over n v)
-      (λ over.
-      let f = all-finished Cube n L v (crash-plain Cube n 1 5 q team (omega arith) o.running) over 4 (omega arith) refl in
-      let was : finished n u 4 ≡ 1 = sym (bytes 4 finished_column (omega arith) (omega arith)) ∙ f in
-      absurd (omega (arith, was, two, (o.pace 4 (omega arith)).ended was)))
-      (λ on. on)
+  crash-on = stays-open 1 team (omega arith) o.running 4 (omega arith) (omega arith) (λ e. omega (arith, e, two, (o.pace 4 (omega arith)).ended e))
 
   turns-same : (i : ℕ) → turns_made n q'.state.table i ≡ turns_made n u i
-  turns-same = crash-turns Cube n 1 5 q team (omega arith) o.running crash-on
+  turns-same = crash-turns 1 team (omega arith) o.running crash-on
 
   crash-near : NearUnaware n 1 3 v
   crash-near = record {
@@ -261,25 +225,25 @@ module _ (n d : ℕ) (c : Cubic n d) (three : 3 ≤ d) (eight : 8 ≤ n) (q : St
         (λ f.
         let far : distance z 1 ≡ 4 = rw f at e in
         let five : z ≡ 5 = sym (xor-undo z 1) ∙ ap (λ (x : ℕ). bit_xor x 1) far in
-        let made : 3 ≤ tests_made n u z = made-tests z 3 hz (omega arith) (rw five (omega (arith, first-three n d c three eight q o))) in
-        omega (arith, f, made, bytes z tests_column (omega arith) (omega arith)))
+        let made : 3 ≤ tests_made n u z = made-tests z 3 hz (omega arith) (rw five (omega (arith, first-three c three eight o))) in
+        omega (arith, f, made, (same-pass z).made))
         (λ f.
         let made = made-tests z 2 hz (omega arith) (omega (arith, o.lag z hz, two)) in
-        omega (arith, f, made, bytes z tests_column (omega arith) (omega arith)));
+        omega (arith, f, made, (same-pass z).made));
     aware = λ x hx e one.
         let none : suspects n v x 1 ≡ 0 =
-        bytes x (head + 1) (omega arith) (omega arith) ∙ o.running.plain.accurate x 1 hx (omega arith) refl refl in
+        crash-same 1 team (omega arith) o.running x (head + 1) (omega arith) (omega arith)
+        ∙ o.running.plain.accurate x 1 hx (omega arith) refl refl in
         absurd (omega (arith, one, none));
   }
 
   crash-rest : Rest n d q'
   crash-rest =
-      let w = crash-goes_on Cube n 1 5 q team (omega arith) o.running crash-on in
+      let w = crash-goes_on 1 team (omega arith) o.running crash-on in
       record {
         running = w.running;
         pace = rw w.table (λ i h e.
-            pace-same n d u v i (bytes i finished_column (omega arith) (omega arith)) (bytes i tests_column (omega arith) (omega arith))
-            (bytes i next_column (omega arith) (omega arith)) (o.pace i h));
+            pace-same (same-pass i) (o.pace i h));
         near = rw w.table crash-near;
         lag = λ i h e. omega (arith, turns-same i, turns-same 4, o.lag i h);
       }
@@ -292,9 +256,9 @@ module _ (n d : ℕ) (c : Cubic n d) (three : 3 ≤ d) (eight : 8 ≤ n) (q : St
       let most : ℕ → ℕ = turns_left everyone (λ i. d) (turns_made n u) in
       let each : (i : ℕ) → i < n → f i + at_place 1 (d + 2) i ≡ most i + 3 =
       λ i h. by_cases (ℕ_discrete i 1)
-      (λ e. rw e (omega (arith, dying-two n d c three eight q o)))
+      (λ e. rw e (omega (arith, dying-two c three eight o)))
       (λ e.
-      rw (ne_eqb i 1 e) (omega (arith, turns-same i, o.lead i h, first-three n d c three eight q o))) in
+      rw (ne_eqb i 1 e) (omega (arith, turns-same i, o.lead i h, first-three c three eight o))) in
       let less : suc (n - 1) ≡ n = omega arith in
       let more : suc (suc d) ≡ d + 2 = omega arith in
       omega (
@@ -311,7 +275,7 @@ module _ (n d : ℕ) (c : Cubic n d) (three : 3 ≤ d) (eight : 8 ≤ n) (q : St
 
   slow-crash : Slow n d q.state.rounds (enough n d) q'
   slow-crash =
-      let w = crash-goes_on Cube n 1 5 q team (omega arith) o.running crash-on in
+      let w = crash-goes_on 1 team (omega arith) o.running crash-on in
       resting crash-rest w.rounds crash-left
 
 -- a fresh plant
@@ -326,20 +290,18 @@ module _ (n d : ℕ) (size : is_size n ≡ true) (three : 3 ≤ d) (power : n �
   sound = fresh-is-sound Cube n 0 0 4 size (station-fits n 4 (omega (arith, eight)))
 
   cubic : Cubic n d
-  cubic = sound-cubic n d (omega arith) power start sound
+  cubic = sound-cubic d (omega arith) power sound
 
   opening-start : Opening n d 0 start
   unfolding turns_left
   opening-start =
-      let fresh = sound-fresh n d (omega arith) power start sound in
-      let run : Running Cube n everyone (following 4) start =
-      begin Cube n everyone (full_crew n d cubic) start (sound-plain n d (omega arith) power start sound) fresh
-      (station-fits n 4 (omega (arith, eight))) in
+      let fresh = sound-fresh sound in
+      let run : Running Cube n everyone (following 4) start = sound-run sound in
       let none : (i : ℕ) → i < n → turns_made n start.state.table i ≡ 0 = λ i h. omega (arith, (fresh i h).untested, (fresh i h).unfinished) in
       let each : (i : ℕ) → i < n → turns_left everyone (λ i. d) (turns_made n start.state.table) i ≡ suc d = λ i h. omega (arith, none i h) in
       record {
         running = rw behind-four at run;
-        pace = λ i h. pace-start n d start.state.table i (fresh i h);
+        pace = λ i h. pace-start d (fresh i h);
         lag = λ i h. omega (arith, none 4 (omega (arith, eight)));
         lead = λ i h. omega (arith, none i h);
         counted = omega (arith, sum_by {g = λ i. suc d} n each, sum-const (suc d) n);
@@ -368,21 +330,14 @@ module _ (n d : ℕ) (size : is_size n ≡ true) (three : 3 ≤ d) (power : n �
         mul-suc n (d - 3 + 1),
         eight,
       ) in
-      let opened = opening-after n d cubic three eight start (2 * n + 1) few opening-start in
-      let first = slow-crash n d cubic three eight _ opened in
+      let opened = opening-after cubic three eight (2 * n + 1) few opening-start in
+      let first = slow-crash cubic three eight opened in
       let all : 1 + (enough n d - 1) ≡ enough n d = omega (arith, many) in
-      slow-after n d cubic three eight _ 1 (enough n d - 1) (omega arith) crashed (rw all first)
+      slow-after cubic three eight _ 1 (enough n d - 1) (omega arith) crashed (rw all first)
 
   unknown : ¬ (KnownDead n end.state.table 1)
-  unfolding exact_row
-  unknown known =
-      let t : List ℕ = end.state.table in
-      let mine : live n t 4 ≡ true = known.others_live 4 (omega (arith, eight)) in
-      let dead : not_live n t 1 ≡ true = rw (known.others_live 1 (omega (arith, eight))) refl in
-      let row = ap (λ (r : List ℕ). get_or r 1 0) (known.exact 4 (omega (arith, eight)) mine) in
-      let one : get_or (list_of (λ j. bit (not_live n t j)) n) 1 0 ≡ 1 =
-      list_of-at (λ j. bit (not_live n t j)) n 1 (omega (arith, eight)) ∙ ap bit dead in
-      omega (arith, (slow-end n d cubic three eight _ _ slow).0, row_at n t 4 1 (omega (arith, eight)), row, one)
+  unknown =
+      not-known n 4 1 end.state.table (omega (arith, eight)) (omega (arith, eight)) (omega arith) (slow-end cubic three eight _ _ slow).0
 
 -- so one grant fewer is not enough, nor is one round: ends in themselves
 pub cube-no-fewer-grants : CubeNoFewerGrants
@@ -394,6 +349,6 @@ cube-no-fewer-grants n d size three power claim =
 pub cube-no-fewer-rounds : CubeNoFewerRounds
 cube-no-fewer-rounds n d size three power claim =
     let big = eight n d size three power in
-    let rounds = (slow-end n d (cubic n d size three power) three big _ _ (slow n d size three power)).1 in
+    let rounds = (slow-end (cubic n d size three power) three big _ _ (slow n d size three power)).1 in
     unknown n d size three power
     (claim (start n d size three power) (2 * n + 1) 1 (enough n d - 1) (sound n d size three power) (omega arith) (omega (arith, rounds)))

@@ -3,7 +3,7 @@
 -- Assumes nothing.
 use mathlib.Core.Path.{◌≡◌, refl, sym, ◌∙◌}
 use mathlib.Core.Logic.{◌≢◌, by_cases}
-use mathlib.Core.Bool.{Bool, true, false, cond, true≢false}
+use mathlib.Core.Bool.{Bool, true, false, cond}
 use mathlib.Core.List.{List}
 use Prim.Native.Nat.{ℕ, suc, ◌+◌, ◌-◌, ◌≤◌, ◌<◌}
 use native.Mathlib.Decide.{ℕ_discrete}
@@ -16,23 +16,23 @@ use Rattle.lists.proofs.SumLaws.{sum-add, sum-single}
 use Rattle.table.specs.Table.{finished, suspects}
 use Rattle.table.specs.Rules.{round_over}
 use Rattle.table.specs.declared.wiring.Wiring.TheVariants.{Cube}
-use Rattle.plant.specs.Turn.{kind_turn, turn}
 use Rattle.slots.proofs.Counts.{sum-le}
 use Rattle.granter.specs.Grant.{waits}
-use Rattle.granter.specs.Drive.{Stand, granted_at, grant_turn}
+use Rattle.granter.specs.Drive.{Stand, grant_turn}
 use Rattle.granter.proofs.GrantLaws.{waits-parts}
 use Rattle.detection.proofs.TurnEffect.{Exact}
-use Rattle.detection.proofs.RoundKnowledge.{all-finished}
 use Rattle.single_crash.specs.Sweeps.{turns_made}
 use Rattle.single_crash.proofs.Sweeps.{Moved}
-use Rattle.single_crash.proofs.Running.{Crew, Running, Closed, chosen, is_live, going, kept, heads, moved, closes, goes_on, stays_known, runs_on}
-use Rattle.single_crash.proofs.Crashing.{all_but}
-use Rattle.single_crash.proofs.Passes.{turns_left, left-turn}
-use Rattle.single_crash.proofs.OnRing.{left_of}
+use Rattle.single_crash.proofs.SweepLaw.{grant_of}
+use Rattle.single_crash.proofs.Running.{Crew, Running, Closed, chosen, is_live, going, moved, closes, goes_on, stays_known, runs_on, turn-less}
+use Rattle.single_crash.proofs.Running.{has-ended, all-ended, left_of}
+use Rattle.single_crash.proofs.Crashing.{all_but, other-lives, but-dead, but-apart, others-crew}
+use Rattle.single_crash.proofs.Passes.{turns_left}
+use Rattle.single_crash.proofs.Running.{left_of}
 use Rattle.single_crash.proofs.CubePace.{Cubic, OnPace, Paced, pace-start, pace-paced}
 use Rattle.single_crash.proofs.CubeLearn.{Learned, learned-next, learned-ended}
 use Rattle.single_crash.proofs.CubeWays.{Multiple, by_distance, by_digits, way-distance, way-digits, digits-most, digits-none}
-use Rattle.single_crash.proofs.CubeRun.{OthersLive, cube-crew, fewest, fewest-turns, paced-turn, granted-other}
+use Rattle.single_crash.proofs.CubeRun.{OthersLive, four, fewest-turns, paced-turn}
 use Rattle.single_crash.proofs.CubeNear.{NearUnaware, near-pace, near-turn}
 
 -- the turns that board i has left to s, if it waits
@@ -62,13 +62,10 @@ to-turn n s wait wait' turns turns' g m h waiting few =
 
 -- every board but b is live, and b is not
 pub but-others : (n b : ℕ) → OthersLive n b (all_but b)
-but-others n b x h q = rw (ne_eqb x b q) refl
+but-others n b x h q = other-lives b x q
 
-pub but-dead : (b : ℕ) → all_but b b ≡ false
-but-dead b = rw (eq-eqb b b refl) refl
-
-pub but-apart : (b x : ℕ) → all_but b x ≡ true → x ≢ b
-but-apart b x l e = true≢false (sym l ∙ rw e (but-dead b))
+pub but-crew : {n d : ℕ} (b : ℕ) → Cubic n d → Crew Cube n (all_but b)
+but-crew {n = n} b c = others-crew Cube n b c.size (omega (arith, four c))
 
 but-is : (b x : ℕ) → all_but b x ≡ false → x ≡ b
 but-is b x e = eqb-true x b (not-false _ e)
@@ -102,162 +99,123 @@ pub record AllAware (n b : ℕ) (p : Stand) : Type 0 where
 abbrev pub left_with : ℕ → ℕ → ℕ → ℕ → List ℕ → ℕ
 left_with n d b s t = left_of n (all_but b) (λ i. d + s) t
 
-module _ (n d b : ℕ) (c : Cubic n d) (hb : b < n) (s : ℕ) (le : s ≤ d) (p : Stand) where
-  abbrev t : List ℕ
-  t = p.state.table
+-- a grant in the round of the crash
+module _ {n d b : ℕ} (c : Cubic n d) (hb : b < n) {s : ℕ} {p : Stand} (r : Spread n d b s p) where
+  open grant_of Cube n p use {before as t, board as g, turned as t', stand as p'}
 
-  abbrev g : ℕ
-  g = granted_at n p
+  spread-pace' : (i : ℕ) → i < n → i ≢ b → OnPace n d t' i
+  spread-pace' = near-pace b c (but-others n b) (but-dead b) hb r.running r.pace (omega arith) (omega (arith, c.levels)) r.near
 
-  abbrev t' : List ℕ
-  t' = turn Cube n t kind_turn g
+  spread-near' : NearUnaware n b 1 t'
+  spread-near' = near-turn b c (but-others n b) (but-dead b) hb r.running r.pace (omega arith) (omega (arith, c.levels)) r.near
 
-  abbrev p' : Stand
-  p' = grant_turn Cube n p
+  spread-learned' : Learned n b (Multiple b s) (by_distance b) t'
+  spread-learned' =
+      learned-next (way-distance b c hb s) c (but-others n b) (but-dead b) hb r.running (λ i h q. pace-paced b c (r.pace i h q)) r.learned
 
-  abbrev others : OthersLive n b (all_but b)
-  others = but-others n b
+  -- one turn less is left
+  pub spread-less : suc (left_with n d b s t') ≡ left_with n d b s t
+  spread-less =
+      let zero = going r.running in
+      let most = (r.pace g (chosen r.running).0 (but-apart b g (is_live r.running))).going zero in
+      turn-less r.running (λ i. d + s) (omega (arith, most.0, zero))
 
-  abbrev crew : Crew Cube n (all_but b)
-  crew = cube-crew n d b (all_but b) c others
-
-  module _ (r : Spread n d b s p) where
-    spread-paced : (i : ℕ) → i < n → i ≢ b → Paced n d b t i
-    spread-paced i h q = pace-paced n d b c t i (r.pace i h q)
-
-    level-one : 1 ≤ d
-    level-one = omega (arith, c.levels)
-
-    spread-pace' : (i : ℕ) → i < n → i ≢ b → OnPace n d t' i
-    spread-pace' = near-pace n d b (all_but b) c others (but-dead b) hb r.begins p r.running r.pace 1 (omega arith) level-one r.near
-
-    spread-near' : NearUnaware n b 1 t'
-    spread-near' = near-turn n d b (all_but b) c others (but-dead b) hb r.begins p r.running r.pace 1 (omega arith) level-one r.near
-
-    spread-learned' : Learned n b (Multiple b s) (by_distance b) t'
-    spread-learned' =
-        let below = (chosen Cube n (all_but b) crew r.begins p r.running).0 in
-        let way = way-distance n d b c hb s in
-        learned-next n d b (all_but b) c others hb (Multiple b s) (by_distance b) way t spread-paced r.learned r.running.plain (but-dead b) g
-        below (granted-other n d b (all_but b) c others r.begins p r.running (but-dead b)) t' _
-        (heads Cube n (all_but b) crew r.begins p r.running) (kept Cube n (all_but b) crew r.begins p r.running)
-        (going Cube n (all_but b) crew r.begins p r.running) (fewest n d b (all_but b) c others r.begins p r.running)
-
-    -- one turn less is left
-    pub spread-less : suc (left_with n d b s t') ≡ left_with n d b s t
-    spread-less =
-        let m = moved Cube n (all_but b) crew r.begins p r.running in
-        let below = (chosen Cube n (all_but b) crew r.begins p r.running).0 in
-        let live = is_live Cube n (all_but b) crew r.begins p r.running in
-        let zero = going Cube n (all_but b) crew r.begins p r.running in
-        let most = (r.pace g below (but-apart b g live)).going zero in
-        left-turn n (all_but b) (λ i. d + s) (turns_made n t) (turns_made n t') g below live (omega (arith, most.0, zero)) m.own m.others
-
-    pub spread-on : round_over n t' ≡ false → Spread n d b s p'
-    spread-on on =
-        let w = goes_on Cube n (all_but b) crew r.begins p r.running on in
-        record {
-          begins = _;
-          running = w.running;
-          pace = rw w.table spread-pace';
-          near = rw w.table spread-near';
-          learned = rw w.table spread-learned';
-        }
-
-    -- where the round closes, all that were to learn know
-    module _ (over : round_over n t' ≡ true) where
-      abbrev closed : Closed Cube n (all_but b) t' g p p'
-      closed = closes Cube n (all_but b) crew r.begins p r.running over
-
-      ended : (x : ℕ) → x < n → x ≢ b → finished n t' x ≡ 1
-      ended x h q =
-          let plain = (kept Cube n (all_but b) crew r.begins p r.running).plain in
-          all-finished Cube n (all_but b) t' plain over x h (others x h q)
-
-      pub spread-over : Gather n d b s p'
-      spread-over = record {
+  pub spread-on : round_over n t' ≡ false → Spread n d b s p'
+  spread-on on =
+      let w = goes_on r.running on in
+      record {
         begins = _;
-        running = closed.running;
-        paced = λ i h q. pace-paced n d b c _ i (pace-start n d _ i (closed.fresh i h));
-        learned = λ x h q all few.
-            let whole = digits-none n d b c hb s x (omega (arith, few, (closed.fresh x h).untested)) in
-            closed.grown x b h hb (learned-ended n d b (all_but b) c others hb (Multiple b s) (by_distance b) (way-distance n d b c hb s) t'
-            (λ i h q. pace-paced n d b c t' i (spread-pace' i h q)) spread-learned' x h q whole (ended x h q));
+        running = w.running;
+        pace = rw w.table spread-pace';
+        near = rw w.table spread-near';
+        learned = rw w.table spread-learned';
       }
 
-      -- and no more turns are left than before
-      pub spread-left : left_to n s p'.state.table ≤ left_with n d b s t'
-      unfolding turns_to turns_left
-      spread-left = sum-le n each
-        where
-          each : (i : ℕ) → i < n → turns_to (waits n p'.state.table) s (turns_made n p'.state.table) i
-              ≤ turns_left (all_but b) (λ i. d + s) (turns_made n t') i
-          each i h =
-              by_bool (waits n p'.state.table i)
-              (λ w.
-              let live : all_but b i ≡ true = sym (closed.running.plain.lives i h) ∙ (waits-parts n p'.state.table i w).0 in
-              let q = but-apart b i live in
-              let all = (spread-pace' i h q).ended (ended i h q) in
-              let fresh = closed.fresh i h in
-              rw (w, live) (omega (arith, all, ended i h q, fresh.untested, fresh.unfinished)))
-              (λ w. rw w (omega arith))
+  -- where the round closes, all that were to learn know
+  module _ (over : round_over n t' ≡ true) where
+    abbrev closed : Closed Cube n (all_but b) t' g p p'
+    closed = closes r.running over
 
-  module _ (r : Gather n d b s p) where
-    gather-paced' : (i : ℕ) → i < n → i ≢ b → Paced n d b t' i
-    gather-paced' i h q = paced-turn n d b (all_but b) c others r.begins p r.running i h q (r.paced i h q)
+    ended : (x : ℕ) → x < n → x ≢ b → finished n t' x ≡ 1
+    ended x h q = all-ended r.running over x h (but-others n b x h q)
 
-    gather-learned' : Learned n b (λ x. Unit {0}) (by_digits b s) t'
-    gather-learned' =
-        let below = (chosen Cube n (all_but b) crew r.begins p r.running).0 in
-        learned-next n d b (all_but b) c others hb (λ x. Unit {0}) (by_digits b s) (way-digits n d b c hb s le) t r.paced r.learned r.running.plain
-        (but-dead b) g below (granted-other n d b (all_but b) c others r.begins p r.running (but-dead b)) t' _
-        (heads Cube n (all_but b) crew r.begins p r.running) (kept Cube n (all_but b) crew r.begins p r.running)
-        (going Cube n (all_but b) crew r.begins p r.running) (fewest n d b (all_but b) c others r.begins p r.running)
+    pub spread-over : Gather n d b s p'
+    spread-over = record {
+      begins = _;
+      running = closed.running;
+      paced = λ i h q. pace-paced b c (pace-start d (closed.fresh i h));
+      learned = λ x h q all few.
+          let whole = digits-none b c hb s x (omega (arith, few, (closed.fresh x h).untested)) in
+          closed.grown x b h hb
+          (learned-ended (way-distance b c hb s) t' (λ i h q. pace-paced b c (spread-pace' i h q)) spread-learned' x h q whole (ended x h q));
+    }
 
-    -- who has finished knows
-    gather-ended : (u : List ℕ) → ((i : ℕ) → i < n → i ≢ b → Paced n d b u i) → Learned n b (λ x. Unit {0}) (by_digits b s) u
-        → (x : ℕ) → x < n → x ≢ b → finished n u x ≡ 1 → suspects n u x b ≡ 1
-    gather-ended u paced learned x h q f =
-        learned-ended n d b (all_but b) c others hb (λ x. Unit {0}) (by_digits b s) (way-digits n d b c hb s le) u paced learned x h q tt f
-
-    -- where the granted board has made s turns all know
-    gathered : s ≤ turns_made n t g → Exact n (all_but b) t
-    gathered far = exact-of n b t all
+    -- and no more turns are left than before
+    pub spread-left : left_to n s p'.state.table ≤ left_with n d b s t'
+    unfolding turns_to turns_left
+    spread-left = sum-le n each
       where
-        all : (x : ℕ) → x < n → x ≢ b → suspects n t x b ≡ 1
-        all x h q =
-            by_cases (ℕ_discrete (finished n t x) 0)
-            (λ f.
-            let few = fewest-turns n d b (all_but b) c others r.begins p r.running x h q f in
-            r.learned x h q tt (omega (arith, few, f, digits-most n d b c hb s x)))
-            (λ f. gather-ended t r.paced r.learned x h q (omega (arith, f, (r.running.plain.lines.1 x h).pass.finished_range)))
+        each : (i : ℕ) → i < n → turns_to (waits n p'.state.table) s (turns_made n p'.state.table) i
+            ≤ turns_left (all_but b) (λ i. d + s) (turns_made n t') i
+        each i h =
+            by_bool (waits n p'.state.table i)
+            (λ w.
+            let live : all_but b i ≡ true = sym (closed.running.plain.lives i h) ∙ (waits-parts n p'.state.table i w).0 in
+            let q = but-apart b i live in
+            let all = (spread-pace' i h q).ended (ended i h q) in
+            let fresh = closed.fresh i h in
+            rw (w, live) (omega (arith, all, ended i h q, fresh.untested, fresh.unfinished)))
+            (λ w. rw w (omega arith))
 
-    -- else its turn is one of those left
-    pub gather-less : turns_made n t g < s → suc (left_to n s t') ≤ left_to n s t
-    gather-less few =
-        let m = moved Cube n (all_but b) crew r.begins p r.running in
-        let at = chosen Cube n (all_but b) crew r.begins p r.running in
-        to-turn n s (waits n t) (waits n t') (turns_made n t) (turns_made n t') g m at.0 at.1 few
+-- and in the one behind it
+module _ {n d b : ℕ} (c : Cubic n d) (hb : b < n) {s : ℕ} (le : s ≤ d) {p : Stand} (r : Gather n d b s p) where
+  open grant_of Cube n p use {before as t, board as g, turned as t', stand as p'}
 
-    pub gather-on : round_over n t' ≡ false → Gather n d b s p'
-    gather-on on =
-        let w = goes_on Cube n (all_but b) crew r.begins p r.running on in
-        record { begins = _; running = w.running; paced = rw w.table gather-paced'; learned = rw w.table gather-learned' }
+  gather-paced' : (i : ℕ) → i < n → i ≢ b → Paced n d b t' i
+  gather-paced' i h q = paced-turn r.running b c (but-others n b) i h q (r.paced i h q)
 
-    pub gather-over : round_over n t' ≡ true → AllAware n b p'
-    gather-over over =
-        let closed = closes Cube n (all_but b) crew r.begins p r.running over in
-        let plain = (kept Cube n (all_but b) crew r.begins p r.running).plain in
-        let now : (x : ℕ) → x < n → x ≢ b → suspects n t' x b ≡ 1 =
-        λ x h q. gather-ended t' gather-paced' gather-learned' x h q (all-finished Cube n (all_but b) t' plain over x h (others x h q)) in
-        record { begins = _; running = closed.running; exact = exact-of n b _ (λ x h q. closed.grown x b h hb (now x h q)) }
+  gather-learned' : Learned n b (λ x. Unit {0}) (by_digits b s) t'
+  gather-learned' = learned-next (way-digits b c hb s le) c (but-others n b) (but-dead b) hb r.running r.paced r.learned
 
-    pub gather-aware : s ≤ turns_made n t g → AllAware n b p
-    gather-aware far = record { begins = _; running = r.running; exact = gathered far }
+  -- who has finished knows
+  gather-ended : (u : List ℕ) → ((i : ℕ) → i < n → i ≢ b → Paced n d b u i) → Learned n b (λ x. Unit {0}) (by_digits b s) u
+      → (x : ℕ) → x < n → x ≢ b → finished n u x ≡ 1 → suspects n u x b ≡ 1
+  gather-ended u paced learned x h q f = learned-ended (way-digits b c hb s le) u paced learned x h q tt f
+
+  -- where the granted board has made s turns all know
+  gathered : s ≤ turns_made n t g → Exact n (all_but b) t
+  gathered far = exact-of n b t all
+    where
+      all : (x : ℕ) → x < n → x ≢ b → suspects n t x b ≡ 1
+      all x h q =
+          by_cases (ℕ_discrete (finished n t x) 0)
+          (λ f.
+          let few = fewest-turns r.running b c (but-others n b) x h q f in
+          r.learned x h q tt (omega (arith, few, f, digits-most b c hb s x)))
+          (λ f. gather-ended t r.paced r.learned x h q (has-ended r.running x h f))
+
+  -- else its turn is one of those left
+  pub gather-less : turns_made n t g < s → suc (left_to n s t') ≤ left_to n s t
+  gather-less few =
+      let m = moved r.running in
+      let at = chosen r.running in
+      to-turn n s (waits n t) (waits n t') (turns_made n t) (turns_made n t') g m at.0 at.1 few
+
+  pub gather-on : round_over n t' ≡ false → Gather n d b s p'
+  gather-on on =
+      let w = goes_on r.running on in
+      record { begins = _; running = w.running; paced = rw w.table gather-paced'; learned = rw w.table gather-learned' }
+
+  pub gather-over : round_over n t' ≡ true → AllAware n b p'
+  gather-over over =
+      let closed = closes r.running over in
+      let now : (x : ℕ) → x < n → x ≢ b → suspects n t' x b ≡ 1 =
+      λ x h q. gather-ended t' gather-paced' gather-learned' x h q (all-ended r.running over x h (but-others n b x h q)) in
+      record { begins = _; running = closed.running; exact = exact-of n b _ (λ x h q. closed.grown x b h hb (now x h q)) }
+
+  pub gather-aware : s ≤ turns_made n t g → AllAware n b p
+  gather-aware far = record { begins = _; running = r.running; exact = gathered far }
 
 -- what all know stays known
-pub aware-on : (n d b : ℕ) → Cubic n d → (p : Stand) → AllAware n b p → AllAware n b (grant_turn Cube n p)
-aware-on n d b c p r =
-    let crew : Crew Cube n (all_but b) = cube-crew n d b (all_but b) c (but-others n b) in
-    let on = runs_on Cube n (all_but b) crew r.begins p r.running in
-    record { begins = on.0; running = on.1; exact = stays_known Cube n (all_but b) crew r.begins p r.running r.exact }
+pub aware-on : {n b : ℕ} {p : Stand} → AllAware n b p → AllAware n b (grant_turn Cube n p)
+aware-on r = let on = runs_on r.running in record { begins = on.0; running = on.1; exact = stays_known r.running r.exact }

@@ -68,7 +68,7 @@ power-multiple s h l =
     let e : u + s ≡ h = omega arith in
     rw (← e, pow-add 2 u s) (mul-mod_left (2 ^ u) (2 ^ s))
 
-module _ (n d b : ℕ) (c : Cubic n d) (hb : b < n) where
+module _ {n d : ℕ} (b : ℕ) (c : Cubic n d) (hb : b < n) where
   distance-below : (x : ℕ) → x < n → distance x b < 2 ^ d
   distance-below x hx = xor_lt d x b (omega (arith, c.power)) (omega (arith, c.power))
 

@@ -14,13 +14,13 @@ use Rattle.table.proofs.Accepting.{Accepted}
 use Rattle.table.specs.declared.wiring.Wiring.{Wiring}
 use Rattle.plant.specs.Turn.{kind_turn, kind_crash}
 use Rattle.plant.specs.Entry.{State, entry_of, acted, after}
-use Rattle.granter.specs.Grant.{grant_check, following}
+use Rattle.granter.specs.Grant.{grant_check}
 use Rattle.granter.specs.Drive.{Stand, stand_at, granted_at, grant_turn, after_grants, ended, ended_after, grants_made, outcome_after, drive}
 use Rattle.granter.proofs.GrantLaws.{grantable}
 use Rattle.single_crash.specs.Setting.{Sound, crash_at, RoundsSince}
 use Rattle.single_crash.specs.Drives.{after_drives, next_drive, grants_of_drives, DrivesAreGrants, RoundsByDrives}
 use Rattle.single_crash.proofs.Running.{Crew, Running, some-live, runs-after}
-use Rattle.single_crash.proofs.Crashing.{everyone, all_but, everyone-crew, others-crew, sound-run, crash-runs}
+use Rattle.single_crash.proofs.Crashing.{all_but, others-crew, sound-run, crash-runs}
 use Rattle.lists.proofs.RefusalLaws.{by_check}
 use Rattle.lists.specs.declared.refusal.Refusal.TheVariants.{TallyFull}
 use Rattle.std.proofs.lemmas.Option.{none-some}
@@ -95,13 +95,13 @@ module _ (w : Wiring) (n b : ℕ) (three : 3 ≤ n) (p : Stand) (k : ℕ) (given
 
   runs : (c : ℕ) × Running w n (all_but b) c q
   runs =
-      let before = runs-after w n everyone (everyone-crew w n ok.size) (following p.last) p (sound-run w n p given) k in
-      crash-runs w n b before.0 (after_grants w n p k) team hb before.1
+      let before = runs-after (sound-run given) k in
+      crash-runs b team hb before.1
 
   live-after : (g : ℕ) → some_live n (after_grants w n q g).state.table ≡ true
   live-after g =
-      let now = runs-after w n (all_but b) team runs.0 q runs.1 g in
-      some-live w n (all_but b) team (after_grants w n q g).state.table now.1.plain
+      let now = runs-after runs.1 g in
+      some-live team now.1.plain
 
   -- so many rounds have closed
   drives-close : (drives : ℕ) → ((i : ℕ) → i < drives → (next_drive w n q i).stopped ≡ None)

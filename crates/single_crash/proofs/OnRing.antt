@@ -5,37 +5,27 @@ use mathlib.Core.Bool.{Bool, true, false}
 use mathlib.Core.List.{List}
 use Prim.Native.Nat.{ℕ, zero, suc, ◌+◌, ◌%◌, ◌≤◌, ◌<◌}
 use native.Mathlib.Omega.{arith}
-use Rattle.lists.specs.Sums.{sum_below}
 use Rattle.lists.proofs.BoolLaws.{by_bool}
 use Rattle.lists.proofs.SumLaws.{sum-zero}
-use Rattle.table.specs.Sizes.{is_size}
-use Rattle.table.specs.Table.{finished_column, next_distance, finished, tests_made, suspects}
+use Rattle.table.specs.Table.{next_distance, finished, tests_made, suspects}
 use Rattle.table.specs.Rules.{round_over}
 use Rattle.table.proofs.SizeLaws.{size-bounds}
 use Rattle.table.specs.declared.wiring.Wiring.TheVariants.{Ring}
-use Rattle.plant.specs.Turn.{kind_turn, next_test, makes_test, outcome_at, turn}
+use Rattle.plant.specs.Turn.{makes_test}
 use Rattle.plant.proofs.RoundLaws.{Reset}
-use Rattle.granter.specs.Drive.{Stand, granted_at, grant_turn, after_grants}
+use Rattle.granter.specs.Drive.{Stand, after_grants}
 use Rattle.detection.proofs.TurnEffect.{Row}
-use Rattle.detection.proofs.RoundKnowledge.{all-finished}
 use Rattle.detection.proofs.RingPass.{RingTurn}
 use Rattle.detection.proofs.RingTurns.{ring-turns}
 use Rattle.single_crash.specs.Sweeps.{turns_made}
-use Rattle.single_crash.proofs.Running.{Crew, Running, chosen, is_live, going, kept, heads, moved, closes, goes_on}
-use Rattle.single_crash.proofs.Crashing.{everyone, everyone-crew}
-use Rattle.single_crash.proofs.Passes.{Reaches, Passing, made-most, passing-start, PassTurn, passing-turn, turn-left, turns_left, left-turn}
-use Rattle.table.specs.declared.wiring.Wiring.{Wiring}
-
-abbrev w : Wiring
-w = Ring
+use Rattle.single_crash.proofs.SweepLaw.{grant_of}
+use Rattle.single_crash.proofs.Running.{Running, chosen, is_live, going, kept, heads, goes_on, turn-less, all-ended, left_of, others-same, by_round}
+use Rattle.single_crash.proofs.Crashing.{everyone}
+use Rattle.single_crash.proofs.Passes.{Reaches, Passing, made-most, passing-start, PassTurn, passing-turn, turn-left, turns_left}
 
 -- the passes of a table, where each live board has so many tests to make
 abbrev pub PassesOf : ℕ → (ℕ → Bool) → (ℕ → ℕ) → List ℕ → Type 0
 PassesOf n L reach t = Passing n L reach (next_distance n t) (tests_made n t) (finished n t)
-
--- how many turns are left in the round
-abbrev pub left_of : ℕ → (ℕ → Bool) → (ℕ → ℕ) → List ℕ → ℕ
-left_of n L reach t = sum_below (turns_left L reach (turns_made n t)) n
 
 -- where a round begins
 pub passes-fresh : (n : ℕ) (L : ℕ → Bool) (reach : ℕ → ℕ) (t : List ℕ) → ((i : ℕ) → i < n → Reset n t i)
@@ -45,21 +35,11 @@ passes-fresh n L reach t fresh far =
     (λ i h. ((fresh i h).next, (fresh i h).untested, (fresh i h).unfinished)) far
 
 -- a grant with its turn
-module _ (n : ℕ) (L : ℕ → Bool) (crew : Crew w n L) (begins : ℕ) (p : Stand) (r : Running w n L begins p) where
-  abbrev t : List ℕ
-  t = p.state.table
-
-  abbrev g : ℕ
-  g = granted_at n p
-
-  abbrev t' : List ℕ
-  t' = turn w n t kind_turn g
-
-  abbrev outcome : ℕ
-  outcome = outcome_at w n t kind_turn g (next_test w n t g)
+module _ {n : ℕ} {L : ℕ → Bool} {begins : ℕ} {p : Stand} (r : Running Ring n L begins p) where
+  open grant_of Ring n p use {before as t, board as g, turned as t', outcome}
 
   pub ring-turn : RingTurn n L (Row n t) (Row n t') (next_distance n t) (next_distance n t') (tests_made n t) (tests_made n t') g
-  ring-turn = ring-turns w n L t t' g outcome refl (kept w n L crew begins p r) (heads w n L crew begins p r)
+  ring-turn = ring-turns Ring n L t t' g outcome refl (kept r) (heads r)
 
   -- what it does to the granted board i, where its next distance is m
   module _ (i m : ℕ) (e : i ≡ g) (q : next_distance n t i ≡ m) (low : m < n) where
@@ -76,39 +56,35 @@ module _ (n : ℕ) (L : ℕ → Bool) (crew : Crew w n L) (begins : ℕ) (p : St
         → (Row n t i j → Row n t' ((i + m) % n) j) × (Row n t ((i + m) % n) j → Row n t' i j)
     meets-at l j h = ((rw q at turn-at.exchanges) low l).1 j h
 
-  pub pass-turn : PassTurn n L (Row n t) (Row n t') (next_distance n t) (next_distance n t') (tests_made n t) (tests_made n t') (finished n t)
+  pass-turn : PassTurn n L (Row n t) (Row n t') (next_distance n t) (next_distance n t') (tests_made n t) (tests_made n t') (finished n t)
       (finished n t') g
   pass-turn =
-      let own = heads w n L crew begins p r in
-      let zero = going w n L crew begins p r in
+      let own = heads r in
+      let zero = going r in
       record {
-        below = (chosen w n L crew begins p r).0;
-        is_live = is_live w n L crew begins p r;
+        below = (chosen r).0;
+        is_live = is_live r;
         going = zero;
         turn = ring-turn;
-        other-done = λ i d. own.others i finished_column d (omega arith);
-        tests = λ h. by_bool (makes_test w n t g) (λ e. omega (arith, zero, rw e at own.finish))
+        other-done = λ i d. (others-same r i d).done;
+        tests = λ h. by_bool (makes_test Ring n t g) (λ e. omega (arith, zero, rw e at own.finish))
             (λ e. absurd (omega (arith, ring-turn.tests h, rw e at own.tests)));
-        ends = λ h. by_bool (makes_test w n t g) (λ e. absurd (omega (arith, (ring-turn.finishes h).1, rw e at own.tests)))
+        ends = λ h. by_bool (makes_test Ring n t g) (λ e. absurd (omega (arith, (ring-turn.finishes h).1, rw e at own.tests)))
             (λ e. rw e at own.finish);
       }
 
   module _ (reach : ℕ → ℕ) (pass : PassesOf n L reach t) where
     pub passes-on : PassesOf n L reach t'
     passes-on =
-        passing-turn n L (Row n t) (Row n t') (next_distance n t) (next_distance n t') (tests_made n t) (tests_made n t') (finished n t)
-        (finished n t') g pass-turn reach pass
+        passing-turn pass-turn pass
 
     -- it had a turn left, and has one less
     pub had-left : turns_made n t g ≤ reach g
     had-left =
-        turn-left n L (Row n t) (Row n t') (next_distance n t) (next_distance n t') (tests_made n t) (tests_made n t') (finished n t)
-        (finished n t') g pass-turn reach pass
+        turn-left pass-turn pass
 
     pub one-less : suc (left_of n L reach t') ≡ left_of n L reach t
-    one-less =
-        let m = moved w n L crew begins p r in
-        left-turn n L reach (turns_made n t) (turns_made n t') g pass-turn.below pass-turn.is_live had-left m.own m.others
+    one-less = turn-less r reach had-left
 
     -- where the round closes with it, it had the last one
     pub none-left : round_over n t' ≡ true → left_of n L reach t' ≡ 0
@@ -117,8 +93,8 @@ module _ (n : ℕ) (L : ℕ → Bool) (crew : Crew w n L) (begins : ℕ) (p : St
         sum-zero n (λ i h.
         by_bool (L i)
         (λ l.
-        let done = all-finished w n L t' (kept w n L crew begins p r).plain over i h l in
-        let made = (made-most n L reach (next_distance n t') (tests_made n t') (finished n t') passes-on i h l).1 done in
+        let done = all-ended r over i h l in
+        let made = (made-most passes-on i h l).1 done in
         rw l (omega arith))
         (λ l. rw l))
 
@@ -135,36 +111,31 @@ reach-one n L i two l = record {
 
 -- where the drive stands before the crash
 pub record Before (n begins : ℕ) (q : Stand) : Type 0 where
-  pub run : Running w n everyone begins q
+  pub run : Running Ring n everyone begins q
   pub passes : PassesOf n everyone one q.state.table
 
-pub before-fresh : (n begins : ℕ) (q : Stand) → 2 ≤ n → ((i : ℕ) → i < n → Reset n q.state.table i) → Running w n everyone begins q
-    → Before n begins q
-before-fresh n begins q two fresh run = record {
-  run = run;
-  passes = passes-fresh n everyone one q.state.table fresh (λ i h l. (omega arith, reach-one n everyone i two refl));
-}
+pub before-fresh : {n begins : ℕ} {q : Stand} → ((i : ℕ) → i < n → Reset n q.state.table i) → Running Ring n everyone begins q → Before n begins q
+before-fresh {n = n} {q = q} fresh run =
+    let two = (size-bounds n run.crew.size).0 in
+    record {
+      run = run;
+      passes = passes-fresh n everyone one q.state.table fresh (λ i h l. (omega arith, reach-one n everyone i two refl));
+    }
 
 -- a grant with its turn keeps it so, where the round goes on and where it closes
-pub before-on : (n : ℕ) (size : is_size n ≡ true) (begins : ℕ) (q : Stand) → Before n begins q
-    → round_over n (turn w n q.state.table kind_turn (granted_at n q)) ≡ false → Before n begins (grant_turn w n q)
-before-on n size begins q before unclosed =
-    let crew = everyone-crew w n size in
-    let c = goes_on w n everyone crew begins q before.run unclosed in
-    record { run = c.running; passes = rw c.table (passes-on n everyone crew begins q before.run one before.passes) }
+module _ {n begins : ℕ} {q : Stand} (before : Before n begins q) where
+  open grant_of Ring n q use {turned, stand}
 
-pub before-step : (n : ℕ) → is_size n ≡ true → (begins : ℕ) (q : Stand) → Before n begins q → (c : ℕ) × Before n c (grant_turn w n q)
-before-step n size begins q before =
-    let crew = everyone-crew w n size in
-    by_bool (round_over n (turn w n q.state.table kind_turn (granted_at n q)))
-    (λ over.
-    let c = closes w n everyone crew begins q before.run over in
-    (_, before-fresh n _ _ (size-bounds n size).0 c.fresh c.running))
-    (λ unclosed. (begins, before-on n size begins q before unclosed))
+  pub before-on : round_over n turned ≡ false → Before n begins stand
+  before-on unclosed =
+      let c = goes_on before.run unclosed in
+      record { run = c.running; passes = rw c.table (passes-on before.run one before.passes) }
 
-pub before-all : (n : ℕ) → is_size n ≡ true → (begins : ℕ) (p : Stand) → Before n begins p → (k : ℕ) → (c : ℕ) × Before n c (after_grants w n p k)
+  before-step : (c : ℕ) × Before n c stand
+  before-step =
+      by_round before.run (λ over c. (_, before-fresh c.fresh c.running)) (λ unclosed c. (begins, before-on unclosed))
+
+pub before-all : {n begins : ℕ} {p : Stand} → Before n begins p → (k : ℕ) → (c : ℕ) × Before n c (after_grants Ring n p k)
 unfolding after_grants
-before-all n size begins p before zero = (begins, before)
-before-all n size begins p before (suc k) =
-    let b = before-all n size begins p before k in
-    before-step n size b.0 (after_grants w n p k) b.1
+before-all before zero = (_, before)
+before-all before (suc k) = before-step (before-all before k).1

@@ -1,6 +1,6 @@
 -- The passes of a round on the ring over numbers, where each live board has a number of tests to make; and the turns that are left.
 -- Assumes nothing.
-use mathlib.Core.Path.{◌≡◌, refl}
+use mathlib.Core.Path.{◌≡◌, refl, ◌∙◌}
 use mathlib.Core.Logic.{◌≢◌, by_cases}
 use mathlib.Core.Bool.{Bool, true, false, cond}
 use Prim.Native.Nat.{ℕ, suc, ◌+◌, ◌-◌, ◌%◌, ◌≤◌, ◌<◌}
@@ -35,9 +35,9 @@ passing-start n live reach next made done fresh far = record {
 }
 
 -- how many tests a live board has made at the most, and where it has finished
-pub made-most : (n : ℕ) (live : ℕ → Bool) (reach next made done : ℕ → ℕ) → Passing n live reach next made done → (i : ℕ) → i < n → live i ≡ true
+pub made-most : {n : ℕ} {live : ℕ → Bool} {reach next made done : ℕ → ℕ} → Passing n live reach next made done → (i : ℕ) → i < n → live i ≡ true
     → (made i ≤ reach i) × (done i ≡ 1 → made i ≡ reach i)
-made-most n live reach next made done pass i h l =
+made-most {reach = reach} {made = made} pass i h l =
     by_cases (dec_lt (made i) (reach i)) (λ m. (omega arith, λ e. absurd (omega (arith, pass.testing i h l m))))
     (λ m. let q = pass.tested i h l (omega arith) in (omega (arith, q), λ e. q.1))
 
@@ -51,8 +51,8 @@ pub record PassTurn (n : ℕ) (live : ℕ → Bool) (row row' : ℕ → ℕ → 
   pub tests : next g < n → done' g ≡ 0
   pub ends : n ≤ next g → done' g ≡ 1
 
-module _ (n : ℕ) (live : ℕ → Bool) (row row' : ℕ → ℕ → Type 0) (next next' made made' done done' : ℕ → ℕ) (g : ℕ)
-    (t : PassTurn n live row row' next next' made made' done done' g) (reach : ℕ → ℕ) (pass : Passing n live reach next made done) where
+module _ {n : ℕ} {live : ℕ → Bool} {row row' : ℕ → ℕ → Type 0} {next next' made made' done done' : ℕ → ℕ} {g : ℕ}
+    (t : PassTurn n live row row' next next' made made' done done' g) {reach : ℕ → ℕ} (pass : Passing n live reach next made done) where
   -- a test that is not its last; its last; or the turn that finishes
   abbrev Own : Type 0
   Own =
@@ -116,3 +116,10 @@ unfolding turns_left
 left-turn n live reach turns turns' g h l left own others =
     sum_one (turns_left live reach turns) (turns_left live reach turns') n g h (λ i k d. rw (others i k d))
     (rw (l) (omega arith))
+
+-- a number at place p only
+abbrev pub at_place : ℕ → ℕ → ℕ → ℕ
+at_place p v i = cond (eqb i p) v 0
+
+pub sum-at : (n p v : ℕ) → p < n → sum_below (at_place p v) n ≡ v
+sum-at n p v h = sum-single (at_place p v) n p h (λ i l d. rw (ne_eqb i p d) refl) ∙ rw (eq-eqb p p refl) refl

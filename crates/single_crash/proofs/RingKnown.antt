@@ -1,8 +1,8 @@
 -- On the ring all boards know the dead one within 5n − 8 grants, and in the third round.
 -- Assumes nothing.
 use mathlib.Core.Path.{◌≡◌, refl, sym}
-use mathlib.Core.Logic.{◌≢◌, by_cases}
-use mathlib.Core.Bool.{Bool, true, false}
+use mathlib.Core.Logic.{by_cases}
+use mathlib.Core.Bool.{true, false}
 use mathlib.Core.List.{List}
 use Prim.Native.Nat.{ℕ, zero, suc, ◌+◌, ◌-◌, ◌*◌, ◌≤◌, ◌<◌}
 use native.Mathlib.Decide.{dec_lt}
@@ -11,52 +11,45 @@ use Rattle.lists.proofs.BoolLaws.{by_bool}
 use Rattle.table.specs.Sizes.{is_size}
 use Rattle.table.specs.Table.{tests_made}
 use Rattle.table.specs.Rules.{round_over}
-use Rattle.table.proofs.SizeLaws.{size-bounds}
 use Rattle.table.specs.declared.wiring.Wiring.TheVariants.{Ring}
-use Rattle.plant.specs.Turn.{kind_turn, turn, crash}
-use Rattle.granter.specs.Drive.{Stand, granted_at, grant_turn, after_grants}
+use Rattle.plant.specs.Turn.{crash}
+use Rattle.granter.specs.Drive.{Stand, grant_turn, after_grants}
 use Rattle.granter.specs.Grant.{following}
 use Rattle.granter.proofs.GrantLaws.{grantable}
 use Rattle.detection.proofs.TurnEffect.{Plain, Exact}
 use Rattle.single_crash.specs.Sweeps.{turns_made}
 use Rattle.single_crash.specs.Setting.{Sound, crash_at, behind_crash, RoundsSince, KnownDead}
 use Rattle.single_crash.specs.Ring.{RingInGrants, RingInRounds}
-use Rattle.single_crash.proofs.Running.{Running, closes, goes_on, stays_known, runs_on}
+use Rattle.single_crash.proofs.Running.{Running, goes_on, stays_known, runs_on, left_of, by_round}
 use Rattle.single_crash.proofs.Crashing.{all_but, sound-fresh, sound-run, crash-closes, crash-goes_on, crash-turns, known-dead}
-use Rattle.single_crash.proofs.Around.{before-below, before-apart}
-use Rattle.single_crash.proofs.Around as around
-use Rattle.single_crash.proofs.OnRing.{left_of, one, one-less, Before, before-fresh, before-all}
-use Rattle.single_crash.proofs.RingStages.{Board, Waiting, Finding, Spread, crew, a-below, a-lives, two_before, left-most, left-made, finding-fresh}
+use Rattle.single_crash.proofs.OnRing.{one, one-less, Before, before-fresh, before-all}
+use Rattle.single_crash.proofs.RingStages.{Board, Waiting, Finding, Spread, circle, ahead, crew, two_before, left-most, left-made, finding-fresh}
 use Rattle.single_crash.proofs.RingStages.{waiting-on}
-use Rattle.single_crash.proofs.RingFirst.{WaitingFirst, FindingFirst, SpreadFirst, d-lives, waiting-first-on, waiting-first-closes}
+use Rattle.single_crash.proofs.RingFirst.{WaitingFirst, FindingFirst, SpreadFirst, waiting-first-on, waiting-first-closes}
 use Rattle.single_crash.proofs.RingFirst.{finding-first-on, finding-first-closes, spread-first-on, spread-first-known, crash-first}
 use Rattle.single_crash.proofs.RingStages.{finding-on, finding-closes, spread-on, spread-open, spread-known, crash-finding, crash-waiting}
-use Rattle.table.specs.declared.wiring.Wiring.{Wiring}
 
-abbrev w : Wiring
-w = Ring
-
-module _ (n b : ℕ) (board : Board n b) where
-  abbrev L : ℕ → Bool
-  L = all_but b
+module _ {n b : ℕ} (board : Board n b) where
+  open circle n b use {others as L, first as a, second as d}
+  open ahead board use {a<n, d<n, d-apart, live-a, live-d}
 
   -- where the drive stands after the crash, in a round of which `first` had closed before: it knows within m grants
   pub data Stage (first m : ℕ) (p : Stand) : Type 0 where
-    all_know : (begins : ℕ) → Running w n L begins p → Exact n L p.state.table → Stage first m p
-    spreading : (begins j : ℕ) → Spread n b board begins j p → j + 3 < n → p.state.rounds ≤ first + 2 → n ≤ j + m + 3 → Stage first m p
-    finding : (begins : ℕ) → Finding n b board begins p → p.state.rounds ≤ first + 1
-        → left_of n L (two_before n b board) p.state.table + n ≤ m + 3 → Stage first m p
-    waiting : (begins : ℕ) → Waiting n b board begins p → p.state.rounds ≤ first
+    all_know : (begins : ℕ) → Running Ring n L begins p → Exact n L p.state.table → Stage first m p
+    spreading : (begins j : ℕ) → Spread board begins j p → j + 3 < n → p.state.rounds ≤ first + 2 → n ≤ j + m + 3 → Stage first m p
+    finding : (begins : ℕ) → Finding board begins p → p.state.rounds ≤ first + 1
+        → left_of n L (two_before board) p.state.table + n ≤ m + 3 → Stage first m p
+    waiting : (begins : ℕ) → Waiting board begins p → p.state.rounds ≤ first
         → left_of n L one p.state.table + (n + n + n) ≤ m + 4 → Stage first m p
-    spreading_first : (begins j : ℕ) → SpreadFirst n b board begins j p → j + 4 < n → p.state.rounds ≤ first + 2 → n ≤ j + m + 4
+    spreading_first : (begins j : ℕ) → SpreadFirst board begins j p → j + 4 < n → p.state.rounds ≤ first + 2 → n ≤ j + m + 4
         → Stage first m p
-    finding_first : (begins : ℕ) → FindingFirst n b board begins p → p.state.rounds ≤ first + 1
-        → left_of n L (two_before n b board) p.state.table + n ≤ m + 4 → Stage first m p
-    waiting_first : (begins : ℕ) → WaitingFirst n b board begins p → p.state.rounds ≤ first
+    finding_first : (begins : ℕ) → FindingFirst board begins p → p.state.rounds ≤ first + 1
+        → left_of n L (two_before board) p.state.table + n ≤ m + 4 → Stage first m p
+    waiting_first : (begins : ℕ) → WaitingFirst board begins p → p.state.rounds ≤ first
         → left_of n L one p.state.table + (n + n + n) ≤ m + 5 → Stage first m p
 
   -- with no grant left, and when three rounds have closed, all know
-  pub stage-done : (first : ℕ) (p : Stand) → Stage first 0 p → Exact n L p.state.table
+  stage-done : (first : ℕ) (p : Stand) → Stage first 0 p → Exact n L p.state.table
   stage-done first p (all_know begins r know) = know
   stage-done first p (spreading begins j s low rounds most) = absurd (omega arith)
   stage-done first p (finding begins s rounds most) = absurd (omega arith)
@@ -64,10 +57,10 @@ module _ (n b : ℕ) (board : Board n b) where
   stage-done first p (spreading_first begins j s low rounds most) = absurd (omega arith)
   stage-done first p (finding_first begins s rounds most) =
       let r = s.finding.run in
-      absurd (omega (arith, one-less n L (crew n b board) begins p r (two_before n b board) s.finding.passes))
+      absurd (omega (arith, one-less r (two_before board) s.finding.passes))
   stage-done first p (waiting_first begins s rounds most) = absurd (omega arith)
 
-  pub stage-closed : (first m : ℕ) (p : Stand) → Stage first m p → first + 3 ≤ p.state.rounds → Exact n L p.state.table
+  stage-closed : (first m : ℕ) (p : Stand) → Stage first m p → first + 3 ≤ p.state.rounds → Exact n L p.state.table
   stage-closed first m p (all_know begins r know) three = know
   stage-closed first m p (spreading begins j s low rounds most) three = absurd (omega arith)
   stage-closed first m p (finding begins s rounds most) three = absurd (omega arith)
@@ -76,7 +69,7 @@ module _ (n b : ℕ) (board : Board n b) where
   stage-closed first m p (finding_first begins s rounds most) three = absurd (omega arith)
   stage-closed first m p (waiting_first begins s rounds most) three = absurd (omega arith)
 
-  pub stage-plain : (first m : ℕ) (p : Stand) → Stage first m p → Plain w n L p.state.table
+  stage-plain : (first m : ℕ) (p : Stand) → Stage first m p → Plain Ring n L p.state.table
   stage-plain first m p (all_know begins r know) = r.plain
   stage-plain first m p (spreading begins j s low rounds most) = s.run.plain
   stage-plain first m p (finding begins s rounds most) = s.run.plain
@@ -86,118 +79,99 @@ module _ (n b : ℕ) (board : Board n b) where
   stage-plain first m p (waiting_first begins s rounds most) = s.waiting.run.plain
 
   -- a grant takes one
-  pub stage-step : (first m : ℕ) (p : Stand) → Stage first m p → Stage first (m - 1) (grant_turn w n p)
+  stage-step : (first m : ℕ) (p : Stand) → Stage first m p → Stage first (m - 1) (grant_turn Ring n p)
   stage-step first m p (all_know begins r know) =
-      let on = runs_on w n L (crew n b board) begins p r in
-      all_know on.0 on.1 (stays_known w n L (crew n b board) begins p r know)
+      let on = runs_on r in
+      all_know on.0 on.1 (stays_known r know)
   stage-step first m p (spreading begins j s low rounds most) =
-      let on = spread-on n b board begins j p s low in
-      let o = goes_on w n L (crew n b board) begins p s.run (spread-open n b board begins j p s low) in
+      let on = spread-on board s low in
+      let o = goes_on s.run (spread-open board s low) in
       by_cases (dec_lt (suc j + 3) n) (λ l. spreading begins (suc j) on l (omega (arith, o.rounds)) (omega arith))
-      (λ l. all_know begins on.run (spread-known n b board begins (suc j) _ on (omega arith)))
+      (λ l. all_know begins on.run (spread-known board on (omega arith)))
   stage-step first m p (finding begins s rounds most) =
-      let reach = two_before n b board in
-      let less = one-less n L (crew n b board) begins p s.run reach s.passes in
-      by_bool (round_over n (turn w n p.state.table kind_turn (granted_at n p)))
-      (λ over.
-      let z = closes w n L (crew n b board) begins p s.run over in
-      let on = finding-closes n b board begins p s over in
+      let reach = two_before board in
+      let less = one-less s.run reach s.passes in
+      by_round s.run
+      (λ over z.
+      let on = finding-closes board s over in
       spreading on.0 0 on.1 (omega arith) (omega (arith, z.rounds)) (omega (arith, less)))
-      (λ unclosed.
-      let o = goes_on w n L (crew n b board) begins p s.run unclosed in
-      finding begins (finding-on n b board begins p s unclosed) (omega (arith, o.rounds)) (rw o.table (omega (arith, less))))
+      (λ unclosed o.
+      finding begins (finding-on board s unclosed) (omega (arith, o.rounds)) (rw o.table (omega (arith, less))))
   stage-step first m p (waiting begins s rounds most) =
-      let less = one-less n L (crew n b board) begins p s.run one s.passes in
-      by_bool (round_over n (turn w n p.state.table kind_turn (granted_at n p)))
-      (λ over.
-      let z = closes w n L (crew n b board) begins p s.run over in
-      let fresh = finding-fresh n b board _ _ z.fresh z.running in
-      finding _ fresh (omega (arith, z.rounds)) (omega (arith, less, left-most n b board (grant_turn w n p).state.table)))
-      (λ unclosed.
-      let o = goes_on w n L (crew n b board) begins p s.run unclosed in
-      waiting begins (waiting-on n b board begins p s unclosed) (omega (arith, o.rounds)) (rw o.table (omega (arith, less))))
+      let less = one-less s.run one s.passes in
+      by_round s.run
+      (λ over z.
+      let fresh = finding-fresh board z.fresh z.running in
+      finding _ fresh (omega (arith, z.rounds)) (omega (arith, less, left-most board (grant_turn Ring n p).state.table)))
+      (λ unclosed o.
+      waiting begins (waiting-on board s unclosed) (omega (arith, o.rounds)) (rw o.table (omega (arith, less))))
   stage-step first m p (spreading_first begins j s low rounds most) =
-      let on = spread-first-on n b board begins j p s (omega arith) in
-      let o = goes_on w n L (crew n b board) begins p s.spread.run (spread-open n b board begins j p s.spread (omega arith)) in
+      let on = spread-first-on board s (omega arith) in
+      let o = goes_on s.spread.run (spread-open board s.spread (omega arith)) in
       by_cases (dec_lt (suc j + 4) n) (λ l. spreading_first begins (suc j) on l (omega (arith, o.rounds)) (omega arith))
-      (λ l. all_know begins on.spread.run (spread-first-known n b board begins (suc j) _ on (omega arith)))
+      (λ l. all_know begins on.spread.run (spread-first-known board on (omega arith)))
   stage-step first m p (finding_first begins s rounds most) =
-      let reach = two_before n b board in
+      let reach = two_before board in
       let r = s.finding.run in
-      let less = one-less n L (crew n b board) begins p r reach s.finding.passes in
-      by_bool (round_over n (turn w n p.state.table kind_turn (granted_at n p)))
-      (λ over.
-      let z = closes w n L (crew n b board) begins p r over in
-      let on = finding-first-closes n b board begins p s over in
+      let less = one-less r reach s.finding.passes in
+      by_round r
+      (λ over z.
+      let on = finding-first-closes board s over in
       by_cases (dec_lt 4 n) (λ l. spreading_first on.0 0 on.1 l (omega (arith, z.rounds)) (omega (arith, less)))
-      (λ l. all_know on.0 on.1.spread.run (spread-first-known n b board on.0 0 _ on.1 (omega arith))))
-      (λ unclosed.
-      let o = goes_on w n L (crew n b board) begins p r unclosed in
-      finding_first begins (finding-first-on n b board begins p s unclosed) (omega (arith, o.rounds)) (rw o.table (omega (arith, less))))
+      (λ l. all_know on.0 on.1.spread.run (spread-first-known board on.1 (omega arith))))
+      (λ unclosed o.
+      finding_first begins (finding-first-on board s unclosed) (omega (arith, o.rounds)) (rw o.table (omega (arith, less))))
   stage-step first m p (waiting_first begins s rounds most) =
       let r = s.waiting.run in
-      let less = one-less n L (crew n b board) begins p r one s.waiting.passes in
-      by_bool (round_over n (turn w n p.state.table kind_turn (granted_at n p)))
-      (λ over.
-      let z = closes w n L (crew n b board) begins p r over in
-      let on = waiting-first-closes n b board begins p s over in
-      finding_first on.0 on.1 (omega (arith, z.rounds)) (omega (arith, less, left-most n b board (grant_turn w n p).state.table)))
-      (λ unclosed.
-      let o = goes_on w n L (crew n b board) begins p r unclosed in
-      waiting_first begins (waiting-first-on n b board begins p s unclosed) (omega (arith, o.rounds)) (rw o.table (omega (arith, less))))
+      let less = one-less r one s.waiting.passes in
+      by_round r
+      (λ over z.
+      let on = waiting-first-closes board s over in
+      finding_first on.0 on.1 (omega (arith, z.rounds)) (omega (arith, less, left-most board (grant_turn Ring n p).state.table)))
+      (λ unclosed o.
+      waiting_first begins (waiting-first-on board s unclosed) (omega (arith, o.rounds)) (rw o.table (omega (arith, less))))
 
-  pub stage-after : (first m : ℕ) (p : Stand) → Stage first m p → (g : ℕ) → Stage first (m - g) (after_grants w n p g)
+  stage-after : (first m : ℕ) (p : Stand) → Stage first m p → (g : ℕ) → Stage first (m - g) (after_grants Ring n p g)
   unfolding after_grants
   stage-after first m p s zero = let e : m - 0 ≡ m = omega arith in rw e s
   stage-after first m p s (suc g) =
       let e : m - suc g ≡ m - g - 1 = omega arith in
-      rw e (stage-step first (m - g) (after_grants w n p g) (stage-after first m p s g))
-
-  -- the boards before b, and before that one
-  abbrev a : ℕ
-  a = around.before n b
-
-  abbrev d : ℕ
-  d = around.before n a
+      rw e (stage-step first (m - g) (after_grants Ring n p g) (stage-after first m p s g))
 
   -- where it stands when b has crashed, and the round goes on
-  module _ (begins : ℕ) (q : Stand) (s : Before n begins q) (unclosed : round_over n (crash n q.state.table b) ≡ false) where
+  module _ {begins : ℕ} {q : Stand} (s : Before n begins q) (unclosed : round_over n (crash n q.state.table b) ≡ false) where
     abbrev v : List ℕ
     v = q.state.table
 
     abbrev p : Stand
-    p = crash_at w n q b
+    p = crash_at Ring n q b
 
     rounds : p.state.rounds ≡ q.state.rounds
-    rounds = (crash-goes_on w n b begins q (crew n b board) board.hb s.run unclosed).rounds
+    rounds = (crash-goes_on b (crew board) board.hb s.run unclosed).rounds
 
     -- a has made no test, and tests b
     none-made : tests_made n v a ≡ 0 → Stage q.state.rounds (5 * n - 8) p
     none-made none =
-        finding begins (crash-finding n b board begins q s unclosed none) (omega (arith, rounds))
-        (omega (arith, left-most n b board p.state.table))
+        finding begins (crash-finding board s unclosed none) (omega (arith, rounds))
+        (omega (arith, left-most board p.state.table))
 
-    -- a has made its test: 2n − 4 turns are left at the most, where it has finished, or the one before it has made a turn
+    -- a has made its test: how many turns are left by those of a and d
+    left-by : (x y : ℕ) → x ≤ 2 → y ≤ 2 → x ≤ turns_made n v a → y ≤ turns_made n v d → left_of n L one p.state.table + (2 + x + y) ≤ n + n
+    left-by x y two two' made made' =
+        let same = crash-turns b (crew board) board.hb s.run unclosed in
+        left-made board p.state.table a x d y a<n d<n (λ e. d-apart (sym e)) live-a live-d (omega (arith, same a)) (omega (arith, same d)) two two'
+
+    -- 2n − 4 at the most, where a has finished, or d has made a turn
     some-made : (x y : ℕ) → 1 ≤ tests_made n v a → x + y ≡ 2 → x ≤ turns_made n v a → y ≤ turns_made n v d → Stage q.state.rounds (5 * n - 8) p
     some-made x y had two made made' =
-        let same = crash-turns w n b begins q (crew n b board) board.hb s.run unclosed in
-        let d<n = before-below n a (a-below n b board) (omega arith) in
-        let apart : a ≢ d = λ e. before-apart n a (a-below n b board) (omega arith) (sym e) in
-        let left =
-        left-made n b board p.state.table a x d y (a-below n b board) d<n apart (a-lives n b board) (d-lives n b board)
-        (omega (arith, same a)) (omega (arith, same d)) (omega arith) (omega arith) in
-        waiting begins (crash-waiting n b board begins q s unclosed had) (omega (arith, rounds)) (omega (arith, left))
+        waiting begins (crash-waiting board s unclosed had) (omega (arith, rounds))
+        (omega (arith, left-by x y (omega arith) (omega arith) made made'))
 
     -- or the round began with a
     first-made : 1 ≤ tests_made n v a → turns_made n v a ≤ 1 → turns_made n v d ≡ 0 → Stage q.state.rounds (5 * n - 8) p
     first-made had once none =
-        let same = crash-turns w n b begins q (crew n b board) board.hb s.run unclosed in
-        let d<n = before-below n a (a-below n b board) (omega arith) in
-        let apart : a ≢ d = λ e. before-apart n a (a-below n b board) (omega arith) (sym e) in
-        let left =
-        left-made n b board p.state.table a 1 d 0 (a-below n b board) d<n apart (a-lives n b board) (d-lives n b board)
-        (omega (arith, same a)) (omega (arith, same d)) (omega arith) (omega arith) in
-        waiting_first begins (crash-first n b board begins q s had once none unclosed) (omega (arith, rounds)) (omega (arith, left))
+        waiting_first begins (crash-first board s had once none unclosed) (omega (arith, rounds))
+        (omega (arith, left-by 1 0 (omega arith) (omega arith) (omega arith) (omega arith)))
 
     stage-open : Stage q.state.rounds (5 * n - 8) p
     stage-open =
@@ -209,43 +183,41 @@ module _ (n b : ℕ) (board : Board n b) where
         (λ l. none-made (omega arith))
 
   -- where it stands when b has crashed
-  pub stage-crash : (begins : ℕ) (q : Stand) → Before n begins q → Stage q.state.rounds (5 * n - 8) (crash_at w n q b)
-  stage-crash begins q s =
+  stage-crash : {begins : ℕ} {q : Stand} → Before n begins q → Stage q.state.rounds (5 * n - 8) (crash_at Ring n q b)
+  stage-crash {q = q} s =
       by_bool (round_over n (crash n q.state.table b))
       (λ over.
-      let z = crash-closes w n b begins q (crew n b board) board.hb s.run over in
-      let fresh = finding-fresh n b board _ _ z.fresh z.running in
-      finding _ fresh (omega (arith, z.rounds)) (omega (arith, left-most n b board (crash_at w n q b).state.table)))
-      (stage-open begins q s)
+      let z = crash-closes b (crew board) board.hb s.run over in
+      let fresh = finding-fresh board z.fresh z.running in
+      finding _ fresh (omega (arith, z.rounds)) (omega (arith, left-most board (crash_at Ring n q b).state.table)))
+      (stage-open s)
 
 -- a sound plant
-pub sound-before : (n : ℕ) (p : Stand) → Sound w n p → Before n (following p.last) p
-sound-before n p given =
-    let ok = (grantable w n p.state.table p.last given.granted).ok in
-    before-fresh n (following p.last) p (size-bounds n ok.size).0 (sound-fresh w n p given) (sound-run w n p given)
+pub sound-before : {n : ℕ} {p : Stand} → Sound Ring n p → Before n (following p.last) p
+sound-before given = before-fresh (sound-fresh given) (sound-run given)
 
 -- where the drive stands g grants behind the crash
-module _ (n : ℕ) (four : 4 ≤ n) (p : Stand) (k b g : ℕ) (given : Sound w n p) (hb : b < n) where
+module _ (n : ℕ) (four : 4 ≤ n) (p : Stand) (k b g : ℕ) (given : Sound Ring n p) (hb : b < n) where
   size : is_size n ≡ true
-  size = (grantable w n p.state.table p.last given.granted).ok.size
+  size = (grantable Ring n p.state.table p.last given.granted).ok.size
 
   board : Board n b
   board = record { size = size; four = four; hb = hb }
 
-  reached : Stage n b board (after_grants w n p k).state.rounds (5 * n - 8 - g) (behind_crash w n p k b g)
+  reached : Stage board (after_grants Ring n p k).state.rounds (5 * n - 8 - g) (behind_crash Ring n p k b g)
   reached =
-      let q : Stand = after_grants w n p k in
-      let s = before-all n size (following p.last) p (sound-before n p given) k in
-      stage-after n b board _ (5 * n - 8) (crash_at w n q b) (stage-crash n b board s.0 q s.1) g
+      let q : Stand = after_grants Ring n p k in
+      let s = before-all (sound-before given) k in
+      stage-after board _ (5 * n - 8) (crash_at Ring n q b) (stage-crash board s.1) g
 
-  known-in : Exact n (all_but b) (behind_crash w n p k b g).state.table → KnownDead n (behind_crash w n p k b g).state.table b
-  known-in exact = known-dead w n b (behind_crash w n p k b g).state.table (stage-plain n b board _ _ _ reached) exact
+  known-in : Exact n (all_but b) (behind_crash Ring n p k b g).state.table → KnownDead n (behind_crash Ring n p k b g).state.table b
+  known-in exact = known-dead Ring n b (behind_crash Ring n p k b g).state.table (stage-plain board _ _ _ reached) exact
 
-  pub grants-known : 5 * n - 8 ≤ g → KnownDead n (behind_crash w n p k b g).state.table b
-  grants-known far = let e : 5 * n - 8 - g ≡ 0 = omega arith in known-in (stage-done n b board _ _ (rw e at reached))
+  grants-known : 5 * n - 8 ≤ g → KnownDead n (behind_crash Ring n p k b g).state.table b
+  grants-known far = let e : 5 * n - 8 - g ≡ 0 = omega arith in known-in (stage-done board _ _ (rw e at reached))
 
-  pub rounds-known : RoundsSince w n p k b g 3 → KnownDead n (behind_crash w n p k b g).state.table b
-  rounds-known far = known-in (stage-closed n b board _ _ _ reached far)
+  rounds-known : RoundsSince Ring n p k b g 3 → KnownDead n (behind_crash Ring n p k b g).state.table b
+  rounds-known far = known-in (stage-closed board _ _ _ reached far)
 
 -- the claims, ends in themselves
 pub ring-in-grants : RingInGrants

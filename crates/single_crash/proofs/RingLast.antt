@@ -3,80 +3,64 @@
 use mathlib.Core.Path.{◌≡◌, refl, sym, ap, ◌∙◌}
 use mathlib.Core.Logic.{by_cases}
 use mathlib.Core.Bool.{Bool, true, false, true≢false}
-use mathlib.Core.List.{List}
 use Prim.Native.Nat.{ℕ, ◌-◌, ◌<◌}
 use native.Mathlib.Decide.{ℕ_discrete}
 use native.Mathlib.Omega.{arith}
 use Rattle.lists.proofs.BoolLaws.{by_bool}
 use Rattle.lists.proofs.SearchLaws.{every-all}
-use Rattle.table.specs.Table.{finished_column, next_distance, finished, tests_made}
+use Rattle.table.specs.Table.{finished}
 use Rattle.table.specs.Rules.{finished_if_live, live_finished, round_over}
 use Rattle.table.specs.declared.wiring.Wiring.TheVariants.{Ring}
-use Rattle.plant.specs.Turn.{kind_turn, turn}
-use Rattle.granter.specs.Grant.{waits}
 use Rattle.granter.specs.Fairness.{stations_before}
-use Rattle.granter.specs.Drive.{Stand, granted_at}
-use Rattle.detection.proofs.RoundKnowledge.{all-finished}
+use Rattle.granter.specs.Drive.{Stand}
 use Rattle.single_crash.specs.Sweeps.{turns_made}
-use Rattle.single_crash.proofs.Sweeps.{place-one, place-below, sweep-fewest, sweep-first}
-use Rattle.single_crash.proofs.Running.{Crew, Running, some-live, chosen, kept, heads, next, moved}
+use Rattle.single_crash.proofs.Sweeps.{place-one, place-below}
+use Rattle.single_crash.proofs.SweepLaw.{grant_of}
+use Rattle.single_crash.proofs.Running.{Running, some-live, chosen, kept, moved, grant-first, grant-fewest, live-waits, all-ended, others-same}
 use Rattle.single_crash.proofs.Passes.{made-most}
 use Rattle.single_crash.proofs.OnRing.{PassesOf, passes-on, one}
-use Rattle.table.specs.declared.wiring.Wiring.{Wiring}
 
-abbrev w : Wiring
-w = Ring
-
-module _ (n : ℕ) (L : ℕ → Bool) (crew : Crew w n L) (begins : ℕ) (p : Stand) (r : Running w n L begins p) (pass : PassesOf n L one p.state.table)
+module _ {n : ℕ} {L : ℕ → Bool} {begins : ℕ} {p : Stand} (r : Running Ring n L begins p) (pass : PassesOf n L one p.state.table)
     (z : ℕ) (hz : z < n) (lz : L z ≡ true) (last : stations_before n begins z ≡ n - 1) (open-still : finished n p.state.table z ≡ 0) where
-  abbrev t : List ℕ
-  t = p.state.table
-
-  abbrev g : ℕ
-  g = granted_at n p
-
-  abbrev t' : List ℕ
-  t' = turn w n t kind_turn g
+  open grant_of Ring n p use {before as t, board as g, turned as t'}
 
   -- it closes with z
   pub last-closes : round_over n t' ≡ true → g ≡ z
   last-closes over =
       by_cases (ℕ_discrete g z) (λ e. e)
       (λ k.
-      let same = (heads w n L crew begins p r).others z finished_column (λ e. k (sym e)) (omega arith) in
-      let ended = all-finished w n L t' (kept w n L crew begins p r).plain over z hz lz in
+      let same = (others-same r z (λ e. k (sym e))).done in
+      let ended = all-ended r over z hz lz in
       absurd (omega (arith, open-still)))
 
   -- where z finishes, all others have
   module _ (e : z ≡ g) (ended : finished n t' z ≡ 1) where
     twice : turns_made n t g ≡ 1
     twice =
-        let now = passes-on n L crew begins p r one pass in
-        let made = (made-most n L one (next_distance n t') (tests_made n t') (finished n t') now z hz lz).1 ended in
-        omega (arith, (moved w n L crew begins p r).own, rw e at made, rw e at ended)
+        let now = passes-on r one pass in
+        let made = (made-most now z hz lz).1 ended in
+        omega (arith, (moved r).own, rw e at made, rw e at ended)
 
     others-ended : (i : ℕ) → i < n → L i ≡ true → finished n t' i ≡ 1
-    unfolding waits
     others-ended i h l =
         by_cases (ℕ_discrete i g) (λ q. ap (λ (x : ℕ). finished n t' x) (q ∙ sym e) ∙ ended)
         (λ q.
-        let same = (heads w n L crew begins p r).others i finished_column q (omega arith) in
+        let same = (others-same r i q).done in
         by_cases (ℕ_discrete (finished n t i) 1) (λ x. same ∙ x)
         (λ x.
         let none : finished n t i ≡ 0 = omega (arith, pass.range i h) in
-        let wait : waits n t i ≡ true = rw (r.plain.lives i h, l, none) refl in
-        let chain = next w n L crew begins p r in
-        let few = sweep-fewest n begins (waits n t) (turns_made n t) p.last g r.fits r.sweep chain i h wait in
-        let most = (made-most n L one (next_distance n t) (tests_made n t) (finished n t) pass i h l).0 in
-        let first = sweep-first n begins (waits n t) (turns_made n t) p.last g r.fits r.sweep chain i h wait (omega (arith, twice)) in
-        absurd (q (place-one n begins i g r.fits h (chosen w n L crew begins p r).0
+        let wait = live-waits r i h l none in
+        let few = grant-fewest r i h wait in
+        let most = (made-most pass i h l).0 in
+        let first = grant-first r i h wait (omega (arith, twice)) in
+        absurd (q (place-one n begins i g r.fits h (chosen r).0
         (omega (arith, rw e at last, place-below n begins i r.fits h))))))
 
     closing : round_over n t' ≡ true
     unfolding live_finished
     closing =
-        let plain = (kept w n L crew begins p r).plain in
-        rw (some-live w n L crew t' plain)
+        let plain = (kept r).plain in
+        rw (some-live r.crew plain)
         (every-all (finished_if_live n t') n (λ i h. by_bool (L i)
         (λ l. rw (plain.lives i h, l, others-ended i h l) refl) (λ l. rw (plain.lives i h, l) refl)))
 
@@ -84,5 +68,5 @@ module _ (n : ℕ) (L : ℕ → Bool) (crew : Crew w n L) (begins : ℕ) (p : St
   last-open unclosed =
       by_cases (ℕ_discrete z g)
       (λ e. by_cases (ℕ_discrete (finished n t' z) 1) (λ ended. absurd (true≢false (sym (closing e ended) ∙ unclosed)))
-      (λ x. omega (arith, (passes-on n L crew begins p r one pass).range z hz)))
-      (λ k. (heads w n L crew begins p r).others z finished_column k (omega arith) ∙ open-still)
+      (λ x. omega (arith, (passes-on r one pass).range z hz)))
+      (λ k. (others-same r z k).done ∙ open-still)

@@ -9,46 +9,35 @@ use native.Mathlib.Decide.{dec_lt, ℕ_discrete}
 use native.Mathlib.Omega.{arith}
 use borrow.Author.Tests.{le-ltb, ne_eqb}
 use lib.Dec.{leb, eqb}
-use lib.ListN.{get_or}
 use Rattle.lists.specs.Sums.{bit}
 use Rattle.lists.proofs.BoolLaws.{by_bool}
-use Rattle.lists.specs.Search.{list_of}
-use Rattle.lists.proofs.SearchLaws.{list_of-at}
 use Rattle.lists.proofs.SumLaws.{sum_by, sum-add, sum-const}
 use Rattle.table.specs.Sizes.{is_size}
-use Rattle.table.specs.Table.{head, stride, cell, finished_column, next_distance, finished, tests_made, suspects, live}
-use Rattle.table.specs.Rules.{not_live, round_over}
-use Rattle.table.specs.Properties.{exact_row}
+use Rattle.table.specs.Table.{head, stride, cell, finished, tests_made, suspects}
+use Rattle.table.specs.Rules.{round_over}
 use Rattle.table.specs.Fresh.{fresh_table}
-use Rattle.table.proofs.CellLaws.{row_at}
 use Rattle.table.specs.declared.wiring.Wiring.TheVariants.{Ring}
 use Rattle.plant.specs.Entry.{state_of}
 use Rattle.station.proofs.WiredLaws.{place_before, place_behind}
-use Rattle.plant.specs.Turn.{kind_turn, turn, crash}
+use Rattle.plant.specs.Turn.{crash}
 use Rattle.granter.specs.Grant.{no_grant, waits, following, last_check}
 use Rattle.granter.specs.Fairness.{stations_before}
-use Rattle.granter.specs.Drive.{Stand, stand_at, granted_at, grant_turn, after_grants}
-use Rattle.detection.proofs.RoundKnowledge.{all-finished}
+use Rattle.granter.specs.Drive.{Stand, stand_at, grant_turn, after_grants}
 use Rattle.single_crash.specs.Sweeps.{turns_made}
 use Rattle.single_crash.specs.Setting.{Sound, crash_at, behind_crash, RoundsSince, KnownDead}
 use Rattle.single_crash.specs.Ring.{RingNoFewerGrants, RingNoFewerRounds}
-use Rattle.single_crash.proofs.Sweeps.{sweep-fewest, sweep-first}
 use Rattle.single_crash.proofs.SweepLaw.{none-made}
-use Rattle.single_crash.proofs.Running.{Running, chosen, next, moved, goes_on}
-use Rattle.single_crash.proofs.Crashing.{everyone, all_but, everyone-crew, crash-plain, crash-same, crash-turns, crash-goes_on}
-use Rattle.single_crash.proofs.Passes.{made-most, turns_left}
-use Rattle.single_crash.proofs.Around.{BeginsAt, place-zero, place-next}
+use Rattle.single_crash.proofs.SweepLaw.{grant_of}
+use Rattle.single_crash.proofs.Running.{Running, chosen, moved, goes_on, grant-first, grant-fewest, live-waits, left_of}
+use Rattle.single_crash.proofs.Crashing.{everyone, all_but, crash-same, crash-turns, crash-goes_on, stays-open, not-known, crash-pass}
+use Rattle.single_crash.proofs.Passes.{made-most, turns_left, at_place, sum-at}
 use Rattle.single_crash.proofs.Around as around
-use Rattle.single_crash.proofs.OnRing.{left_of, one, Before, one-less, none-left, before-on}
-use Rattle.single_crash.proofs.RingStages.{Board, crew, at_place, sum-at, crash-waiting}
+use Rattle.single_crash.proofs.OnRing.{one, Before, one-less, none-left, before-on}
+use Rattle.single_crash.proofs.RingStages.{Board, crew, crash-waiting}
 use Rattle.single_crash.proofs.RingKnown.{sound-before}
 use Rattle.single_crash.proofs.RingSlow.{WaitingSlow, Slow, slow_waiting, slow-unaware, slow-rounds, slow-after}
 use Rattle.single_crash.proofs.FreshSound.{fresh-is-sound}
-use Rattle.table.specs.declared.wiring.Wiring.{Wiring}
 use Rattle.std.specs.Prelude.{Ok}
-
-abbrev w : Wiring
-w = Ring
 
 -- a plant that has just been started: a fresh table, and nobody was granted yet
 abbrev started : ℕ → Stand
@@ -87,60 +76,46 @@ module _ (n : ℕ) (size : is_size n ≡ true) (four : 4 ≤ n) where
   -- the next grant goes to board x, where the boards before it have made a turn and it has made none
   module _ (p : Stand) (made : ℕ → ℕ) (s : First p made) (x : ℕ) (hx : x + 2 < n) (none : made x ≡ 0) (had : (i : ℕ) → i < x → 1 ≤ made i)
       (left : 2 ≤ left_of n everyone one p.state.table) where
-    abbrev t : List ℕ
-    t = p.state.table
-
-    abbrev g : ℕ
-    g = granted_at n p
-
-    abbrev t' : List ℕ
-    t' = turn w n t kind_turn g
+    open grant_of Ring n p use {before as t, board as g, turned as t'}
 
     x-waits : waits n t x ≡ true
-    unfolding waits
-    x-waits =
-        let zero : finished n t x ≡ 0 = omega (arith, s.turns x (omega arith), none) in
-        rw (s.before.run.plain.lives x (omega arith), zero) refl
+    x-waits = live-waits s.before.run x (omega arith) refl (omega (arith, s.turns x (omega arith), none))
 
     at-x : g ≡ x
     at-x =
         let r = s.before.run in
-        let chain = next w n everyone (everyone-crew w n size) 0 p r in
-        let g<n = (chosen w n everyone (everyone-crew w n size) 0 p r).0 in
+        let g<n = (chosen r).0 in
         let zero : turns_made n t x ≡ 0 = s.turns x (omega arith) ∙ none in
-        let few = sweep-fewest n 0 (waits n t) (turns_made n t) p.last g r.fits r.sweep chain x (omega arith) x-waits in
+        let few = grant-fewest r x (omega arith) x-waits in
         let same : turns_made n t g ≡ 0 = omega arith in
-        let first = sweep-first n 0 (waits n t) (turns_made n t) p.last g r.fits r.sweep chain x (omega arith) x-waits (same ∙ sym zero) in
+        let first = grant-first r x (omega arith) x-waits (same ∙ sym zero) in
         let low : g ≤ x = omega (arith, place-is g g<n, place-is x (omega arith)) in
         by_cases (dec_lt g x) (λ l. absurd (omega (arith, had g l, s.turns g g<n))) (λ l. omega arith)
 
-    pub one-open : round_over n t' ≡ false
+    one-open : round_over n t' ≡ false
     one-open =
-        let crew = everyone-crew w n size in
         let r = s.before.run in
         by_bool (round_over n t')
         (λ over.
-        absurd (omega (arith, none-left n everyone crew 0 p r one s.before.passes over, one-less n everyone crew 0 p r one s.before.passes)))
+        absurd (omega (arith, none-left r one s.before.passes over, one-less r one s.before.passes)))
         (λ o. o)
 
-    pub first-on : (made' : ℕ → ℕ) → made' x ≡ 1 → ((i : ℕ) → i ≢ x → made' i ≡ made i) → First (grant_turn w n p) made'
+    first-on : (made' : ℕ → ℕ) → made' x ≡ 1 → ((i : ℕ) → i ≢ x → made' i ≡ made i) → First (grant_turn Ring n p) made'
     first-on made' own same =
-        let crew = everyone-crew w n size in
         let r = s.before.run in
-        let m = moved w n everyone crew 0 p r in
-        let o = goes_on w n everyone crew 0 p r one-open in
+        let m = moved r in
+        let o = goes_on r one-open in
         record {
-          before = before-on n size 0 p s.before one-open;
+          before = before-on s.before one-open;
           turns = λ i h. rw o.table (by_cases (ℕ_discrete i x)
               (λ e. ap (turns_made n t') (e ∙ sym at-x) ∙ omega (arith, m.own, ap (turns_made n t) at-x, s.turns x (omega arith), own, ap made' e))
               (λ d. m.others i h (λ e. d (e ∙ at-x)) ∙ (s.turns i h ∙ sym (same i d))));
         }
 
-    pub first-left : suc (left_of n everyone one (grant_turn w n p).state.table) ≡ left_of n everyone one t
+    first-left : suc (left_of n everyone one (grant_turn Ring n p).state.table) ≡ left_of n everyone one t
     first-left =
-        let crew = everyone-crew w n size in
         let r = s.before.run in
-        rw (goes_on w n everyone crew 0 p r one-open).table (one-less n everyone crew 0 p r one s.before.passes)
+        rw (goes_on r one-open).table (one-less r one s.before.passes)
 
   -- nobody has made a turn, then board 0 has, then board 1
   none-yet : ℕ → ℕ
@@ -149,8 +124,8 @@ module _ (n : ℕ) (size : is_size n ≡ true) (four : 4 ≤ n) where
   first-start : First (started n) none-yet
   unfolding none-yet following
   first-start =
-      let sound = fresh-is-sound w n 0 0 no_grant size (none-fits n) in
-      record { before = sound-before n (started n) sound; turns = none-made w n (started n) sound.granted sound.start }
+      let sound = fresh-is-sound Ring n 0 0 no_grant size (none-fits n) in
+      record { before = sound-before sound; turns = none-made Ring n (started n) sound.granted sound.start }
 
   left-start : left_of n everyone one (started n).state.table ≡ n * 2
   unfolding turns_left none-yet
@@ -159,10 +134,10 @@ module _ (n : ℕ) (size : is_size n ≡ true) (four : 4 ≤ n) where
       ∙ sum-const 2 n
 
   abbrev p₁ : Stand
-  p₁ = grant_turn w n (started n)
+  p₁ = grant_turn Ring n (started n)
 
   abbrev p₂ : Stand
-  p₂ = grant_turn w n p₁
+  p₂ = grant_turn Ring n p₁
 
   only-0 : ℕ → ℕ
   only-0 i = bit (eqb i 0)
@@ -197,7 +172,7 @@ module _ (n : ℕ) (size : is_size n ≡ true) (four : 4 ≤ n) where
   abbrev L : ℕ → Bool
   L = all_but 2
 
-  abbrev run : Running w n everyone 0 p₂
+  abbrev run : Running Ring n everyone 0 p₂
   run = first-1.before.run
 
   unmade : (i : ℕ) → i < n → 2 ≤ i → finished n v i ≡ 0
@@ -207,19 +182,13 @@ module _ (n : ℕ) (size : is_size n ≡ true) (four : 4 ≤ n) where
       omega (arith, first-1.turns i h)
 
   crash-open : round_over n v' ≡ false
-  crash-open =
-      by_bool (round_over n v')
-      (λ over.
-      let done = all-finished w n L v' (crash-plain w n 2 0 p₂ (crew n 2 board) hb run) over 3 (omega arith) refl in
-      let same = crash-same w n 2 0 p₂ (crew n 2 board) hb run 3 finished_column (omega arith) (omega arith) in
-      absurd (omega (arith, done, same, unmade 3 (omega arith) (omega arith))))
-      (λ o. o)
+  crash-open = stays-open 2 (crew board) hb run 3 (omega arith) (omega arith) (λ e. omega (arith, e, unmade 3 (omega arith) (omega arith)))
 
   abbrev q : Stand
-  q = crash_at w n p₂ 2
+  q = crash_at Ring n p₂ 2
 
   turns-now : (i : ℕ) → i < n → turns_made n q.state.table i ≡ both-made i
-  turns-now i h = crash-turns w n 2 0 p₂ (crew n 2 board) hb run crash-open i ∙ first-1.turns i h
+  turns-now i h = crash-turns 2 (crew board) hb run crash-open i ∙ first-1.turns i h
 
   -- 2n − 4 turns are left
   left-now : left_of n L one q.state.table + 4 ≡ n * 2
@@ -249,61 +218,54 @@ module _ (n : ℕ) (size : is_size n ≡ true) (four : 4 ≤ n) where
   unfolding both-made
   tested =
       let turns : turns_made n v 1 ≡ 1 = first-1.turns 1 (omega arith) in
-      let made = made-most n everyone one (next_distance n v) (tests_made n v) (finished n v) first-1.before.passes 1 (omega arith) refl in
+      let made = made-most first-1.before.passes 1 (omega arith) refl in
       let one-test : tests_made n v 1 ≡ 1 =
       by_cases (ℕ_discrete (finished n v 1) 1) (λ e. absurd (omega (arith, made.1 e)))
       (λ e. omega (arith, first-1.before.passes.range 1 (omega arith))) in
       omega (arith, ap (λ (i : ℕ). tests_made n v i) a-is, one-test)
 
-  slow : WaitingSlow n 2 board 0 q
+  slow : WaitingSlow board 0 q
   slow =
-      let o = crash-goes_on w n 2 0 p₂ (crew n 2 board) hb run crash-open in
-      let same : (k c : ℕ) → 1 ≤ c → c < stride n → cell n v' k c ≡ cell n v k c = crash-same w n 2 0 p₂ (crew n 2 board) hb run in
+      let o = crash-goes_on 2 (crew board) hb run crash-open in
+      let same : (k c : ℕ) → 1 ≤ c → c < stride n → cell n v' k c ≡ cell n v k c = crash-same 2 (crew board) hb run in
       record {
-        waiting = crash-waiting n 2 board 0 p₂ first-1.before crash-open tested;
-        from = inl (sym d-is);
+        waiting = crash-waiting board first-1.before crash-open tested;
+        from = record { below = omega (arith, d-is); place = inl (sym d-is) };
         unfinished =
             rw (o.table, z-is)
-            (same (n - 1) finished_column (omega arith) (omega arith) ∙ unmade (n - 1) (omega arith) (omega arith));
+            ((crash-pass 2 (crew board) hb run (n - 1)).done ∙ unmade (n - 1) (omega arith) (omega arith));
         unaware = λ k h l. rw o.table (same k (head + 2) (omega arith) (omega arith) ∙ run.plain.accurate k 2 h hb refl refl);
       }
 
-  slow-plant : Slow n 2 board p₂.state.rounds (5 * n - 9) q
+  slow-plant : Slow board p₂.state.rounds (5 * n - 9) q
   slow-plant =
-      let o = crash-goes_on w n 2 0 p₂ (crew n 2 board) hb run crash-open in
+      let o = crash-goes_on 2 (crew board) hb run crash-open in
       slow_waiting 0 slow o.rounds (omega (arith, left-now))
 
-  slow-end : Slow n 2 board p₂.state.rounds 0 (after_grants w n q (5 * n - 9))
+  slow-end : Slow board p₂.state.rounds 0 (after_grants Ring n q (5 * n - 9))
   slow-end =
       let most : ℕ = 5 * n - 9 in
       let e : 0 + most ≡ most = omega arith in
-      slow-after n 2 board p₂.state.rounds 0 most q (rw e slow-plant)
+      slow-after board p₂.state.rounds 0 most q (rw e slow-plant)
 
 -- so one grant fewer is not enough, nor are two rounds: ends in themselves
 module _ (n : ℕ) (size : is_size n ≡ true) (four : 4 ≤ n) where
   abbrev end : List ℕ
-  end = (behind_crash w n (started n) 2 2 (5 * n - 9)).state.table
+  end = (behind_crash Ring n (started n) 2 2 (5 * n - 9)).state.table
 
   unaware : suspects n end 0 2 ≡ 0
   unfolding after_grants
-  unaware = rw (d-is n size four) at (slow-unaware n 2 (board n size four) _ 0 _ (slow-end n size four))
+  unaware = rw (d-is n size four) at (slow-unaware (board n size four) _ 0 _ (slow-end n size four))
 
-  rounds-closed : RoundsSince w n (started n) 2 2 (5 * n - 9) 2
+  rounds-closed : RoundsSince Ring n (started n) 2 2 (5 * n - 9) 2
   unfolding after_grants
-  rounds-closed = let two = slow-rounds n 2 (board n size four) _ _ (slow-end n size four) in omega (arith, two)
+  rounds-closed = let two = slow-rounds (board n size four) _ _ (slow-end n size four) in omega (arith, two)
 
   unknown : ¬ (KnownDead n end 2)
-  unfolding exact_row
-  unknown known =
-      let mine : live n end 0 ≡ true = known.others_live 0 (omega arith) in
-      let dead : not_live n end 2 ≡ true = rw (known.others_live 2 (omega arith)) refl in
-      let row = ap (λ (r : List ℕ). get_or r 2 0) (known.exact 0 (omega arith) mine) in
-      let exact : ℕ → ℕ = λ j. bit (not_live n end j) in
-      let one : get_or (list_of exact n) 2 0 ≡ 1 = list_of-at exact n 2 (hb n size four) ∙ ap bit dead in
-      omega (arith, unaware, row_at n end 0 2 (hb n size four), row, one)
+  unknown = not-known n 0 2 end (omega arith) (hb n size four) (omega arith) unaware
 
-  sound : Sound w n (started n)
-  sound = fresh-is-sound w n 0 0 no_grant size (none-fits n)
+  sound : Sound Ring n (started n)
+  sound = fresh-is-sound Ring n 0 0 no_grant size (none-fits n)
 
 pub ring-no-fewer-grants : RingNoFewerGrants
 ring-no-fewer-grants n size four claim = unknown n size four (claim (started n) 2 2 (5 * n - 9) (sound n size four) (omega arith) (omega arith))

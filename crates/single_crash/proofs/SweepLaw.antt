@@ -42,15 +42,29 @@ pub record Going (w : Wiring) (n begins : ℕ) (p : Stand) : Type 0 where
   pub last_fits : last_check n p.last ≡ Ok tt
   pub sweep : InSweep n begins (waits n p.state.table) (turns_made n p.state.table) p.last
 
-module _ (w : Wiring) (n begins : ℕ) (p : Stand) (now : Going w n begins p) where
-  abbrev t : List ℕ
-  t = p.state.table
+-- a grant with its turn: the table before it, the board granted, what its test gives, the table before the round is closed, and where the drive
+-- stands then
+pub record Granting : Type 0 where
+  pub before : List ℕ
+  pub board : ℕ
+  pub outcome : ℕ
+  pub turned : List ℕ
+  pub stand : Stand
 
-  abbrev g : ℕ
-  g = granted_at n p
+abbrev pub grant_of : Wiring → ℕ → Stand → Granting
+grant_of w n p =
+    let t = p.state.table in
+    let g = granted_at n p in
+    record {
+      before = t;
+      board = g;
+      outcome = outcome_at w n t kind_turn g (next_test w n t g);
+      turned = turn w n t kind_turn g;
+      stand = grant_turn w n p;
+    }
 
-  abbrev t' : List ℕ
-  t' = turn w n t kind_turn g
+module _ {w : Wiring} {n begins : ℕ} {p : Stand} (now : Going w n begins p) where
+  open grant_of w n p use {before as t, board as g, turned as t', outcome, stand as p'}
 
   pub chosen : (g < n) × (waits n t g ≡ true)
   chosen = granted-waits n t now.ok.unclosed now.someone p.last
@@ -60,7 +74,7 @@ module _ (w : Wiring) (n begins : ℕ) (p : Stand) (now : Going w n begins p) wh
       let open-pass = eqb-false (finished n t g) 1 (waits-parts n t g chosen.1).1 in
       omega (arith, open-pass, (accepted-line w n t now.ok g chosen.0).pass.finished_range)
 
-  pub heads : Heads w n t t' g (outcome_at w n t kind_turn g (next_test w n t g)) (makes_test w n t g)
+  pub heads : Heads w n t t' g outcome (makes_test w n t g)
   heads = turn-heads w n t kind_turn g (now.ok.long, accepted-line w n t now.ok) chosen.0
 
   -- it is the next in its sweep
@@ -103,29 +117,29 @@ module _ (w : Wiring) (n begins : ℕ) (p : Stand) (now : Going w n begins p) wh
   }
 
   -- where the round has not closed
-  module _ (fits : begins ≤ n) (rounds : ℕ) (same : p.state.rounds ≡ rounds) (unended : ended n rounds (grant_turn w n p).state ≡ false) where
+  module _ (fits : begins ≤ n) (rounds : ℕ) (same : p.state.rounds ≡ rounds) (unended : ended n rounds p'.state ≡ false) where
     unclosed : round_over n t' ≡ false
     unfolding grant_turn after acted
     unclosed =
-        let kept = (not-ended n rounds (grant_turn w n p).state unended).0 in
+        let kept = (not-ended n rounds p'.state unended).0 in
         by_bool (round_over n t') (λ o. absurd (omega (arith, rw o at kept))) (λ o. o)
 
     table : (after w n s e).table ≡ t'
     unfolding after acted after_round
     table = rw unclosed refl
 
-    turned : (grant_turn w n p).state.table ≡ t'
+    turned : p'.state.table ≡ t'
     unfolding grant_turn after acted after_round
     turned = rw unclosed refl
 
-    goes-on : Going w n begins (grant_turn w n p)
+    goes-on : Going w n begins p'
     unfolding grant_turn
     goes-on = record {
       ok = rw (turned, ← table) (accepted-kept w n s e now.ok taken);
-      someone = (not-ended n rounds (grant_turn w n p).state unended).1;
+      someone = (not-ended n rounds p'.state unended).1;
       last_fits = station-fits n g chosen.0;
       sweep =
-          rw turned (sweep-next n begins (waits n t) (turns_made n t) p.last g fits now.sweep next (waits n t') (turns_made n t')
+          rw turned (sweep-next fits now.sweep next
           (size-bounds n now.ok.size).1 moved);
     }
 
@@ -159,19 +173,17 @@ module _ (w : Wiring) (n : ℕ) (p : Stand) (granted : grant_check w n p.state.t
   going-after (suc k) on =
       let before = going-after k (λ j h. on j (omega arith)) in
       let same = (not-ended n p.state.rounds (after_grants w n p k).state (on k (omega arith))).0 in
-      goes-on w n begins (after_grants w n p k) before fits p.state.rounds same (on (suc k) (omega arith))
+      goes-on before fits p.state.rounds same (on (suc k) (omega arith))
 
   in-turn : (k : ℕ) → ((j : ℕ) → j ≤ k → ended_after w n p j ≡ false)
       → InTurn n (after_grants w n p k).state.table (after_grants w n p k).last p.last
   in-turn k on =
       let q = after_grants w n p k in
       let now = going-after k on in
-      let wait = waits n q.state.table in
-      let made = turns_made n q.state.table in
-      let chain = next w n begins q now in
+      let chain = next now in
       record {
-        fewest = sweep-fewest n begins wait made q.last (granted_at n q) fits now.sweep chain;
-        first = sweep-first n begins wait made q.last (granted_at n q) fits now.sweep chain;
+        fewest = sweep-fewest fits now.sweep chain;
+        first = sweep-first fits now.sweep chain;
       }
 
 -- the law, an end in itself

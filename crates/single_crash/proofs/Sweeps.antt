@@ -84,7 +84,7 @@ behind n b g i hb hg hi apart =
     (λ r. rw (le-ltb i b (omega arith), le-ltb g b (omega arith), lt-ltb i (suc g) r) (λ l. omega arith, λ l. omega arith))
     (λ r. rw (le-ltb i b (omega arith), le-ltb g b (omega arith), le-ltb i (suc g) (omega arith)) (λ l. omega arith, λ l. omega arith)))))
 
-module _ (n begins : ℕ) (wait : ℕ → Bool) (made : ℕ → ℕ) (last g : ℕ) (fits : begins ≤ n) (s : InSweep n begins wait made last)
+module _ {n begins : ℕ} {wait : ℕ → Bool} {made : ℕ → ℕ} {last g : ℕ} (fits : begins ≤ n) (s : InSweep n begins wait made last)
     (next : Next n wait last g) where
   abbrev place : ℕ → ℕ
   place i = stations_before n begins i
@@ -137,8 +137,8 @@ module _ (n begins : ℕ) (wait : ℕ → Bool) (made : ℕ → ℕ) (last g : �
       (λ l. absurd (omega (arith, before, s.near g next.below (omega arith), s.near i h (omega arith), next.nearest i h w)))
 
   -- its turn keeps it so
-  pub sweep-next : (wait' : ℕ → Bool) (made' : ℕ → ℕ) → n ≤ 64 → Moved n wait wait' made made' g → InSweep n begins wait' made' g
-  sweep-next wait' made' top moved = record {
+  pub sweep-next : {wait' : ℕ → Bool} {made' : ℕ → ℕ} → n ≤ 64 → Moved n wait wait' made made' g → InSweep n begins wait' made' g
+  sweep-next top moved = record {
     sweep = suc (made g);
     passed = suc (place g);
     near = λ i h l. (behind n begins g i fits next.below h (omega arith)).0 (omega arith);

@@ -133,5 +133,7 @@ turn_outcome (Ok o) = refl
 turn_outcome (Err r) = refl
 
 pub ruleset outcome_laws = (turn_number, turn_outcome)
+
 pub ruleset not_replied_laws = (not_replied_narrow, not_replied_after_narrow)
+
 pub ruleset exchanged_laws = (exchanged_narrow, exchanged_after_narrow)

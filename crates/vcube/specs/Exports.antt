@@ -26,7 +26,7 @@ use Rattle.input.specs.Fault.{fault_in}
 use Rattle.input.specs.Words.{fault_words}
 use Rattle.plant.specs.declared.Tally.{Tally}
 use Rattle.plant.specs.Entry.{State, state_of}
-use Rattle.plant.specs.Run.{RunResult}
+use Rattle.plant.specs.Run.{RunResult, stop_refusal}
 use Rattle.granter.specs.Drive.{DriveResult, drive_outcome}
 use Rattle.lamp.specs.declared.Doubt.{Doubt}
 use Rattle.saved.specs.declared.Loaded.{Loaded}

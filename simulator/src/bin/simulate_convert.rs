@@ -15,7 +15,9 @@ fn main() -> io::Result<ExitCode> {
         number = convert(&old, &mut new);
     }
     if number == 0 {
-        io::stdout().lock().write_all(&new)?;
+        let mut out = io::stdout().lock();
+        out.write_all(&new)?;
+        out.flush()?;
         return Ok(ExitCode::SUCCESS);
     }
     let words = of_refusal(usize::from(number));

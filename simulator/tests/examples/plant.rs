@@ -1,23 +1,12 @@
 //! A plant to be handed to the calls, and its entries.
 
-use simulator::{fresh_table, run, Driven};
+use simulator::{fresh_table, run};
 
 pub const CUBE: usize = 1;
 pub const RING: usize = 2;
 
 /// The bytes of a line before its row.
 pub const HEAD: usize = 6;
-
-/// What a drive answers: number, tally, last granted number and grants.
-pub fn driven(number: u8, (rounds, tests): (u32, u32), last: usize, grants: usize) -> Driven {
-    Driven {
-        number,
-        rounds,
-        tests,
-        last,
-        grants,
-    }
-}
 
 /// A table on a wiring, and its tally of rounds and tests.
 pub struct Plant {

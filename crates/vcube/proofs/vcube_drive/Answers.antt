@@ -7,17 +7,12 @@ use Rattle.detection.proofs.DrivenDetection.{drive-detects}
 use Rattle.accuracy.specs.Accurate.{AccurateAfter}
 use Rattle.accuracy.proofs.Claims.{last-accurate}
 use Rattle.vcube.specs.Exports.{driven_out}
-use Rattle.vcube.proofs.OnWiring.{of_wiring, no_other}
+use Rattle.vcube.proofs.OnWiring.{of_wiring}
 use Rattle.vcube.proofs.vcube_drive.Goals as goal
 
-pub returns-in-Err-clause-outcome : goal.returns-in-Err-clause-outcome
-returns-in-Err-clause-outcome c =
-    let e = sym c.in-Err.is ∙ c.try_from.ensures in
-    rw (← e, no_other _ _ e) refl
-
-pub returns-in-Err-clause-accurate : goal.returns-in-Err-clause-accurate
-returns-in-Err-clause-accurate c =
-    let e = sym c.in-Err.is ∙ c.try_from.ensures in
+pub returns-in_default-clause-accurate : goal.returns-in_default-clause-accurate
+returns-in_default-clause-accurate c =
+    let e = sym c.in_default.is ∙ c.try_from.ensures in
     let before = state_of c.args.table.now c.args.rounds.now c.args.tests.now in
     rw (← e) (last-accurate (a_drive (Err _) c.args.n c.args.last.now) before)
 

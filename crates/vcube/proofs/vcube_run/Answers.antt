@@ -1,9 +1,8 @@
 -- What the run leaves is what its definition says, and of that the laws of lists speak: on a wiring, and where 24 refuses its number.
 use Rattle.std.proofs.Common.{Ok, Err, ◌∙◌, sym, ap, subst}
-use Rattle.lists.specs.Refusal.{number_of}
 use Rattle.plant.specs.Entry.{state_of}
 use Rattle.plant.specs.Run.{RunResult}
-use Rattle.detection.specs.Runs.{call_of}
+use Rattle.detection.specs.Runs.{call_of, taken_by}
 use Rattle.detection.specs.Driven.{a_run}
 use Rattle.detection.specs.InList.{DetectionInList}
 use Rattle.detection.proofs.Chain.{taken_is}
@@ -11,26 +10,21 @@ use Rattle.detection.proofs.DetectionClaim.{run-detects}
 use Rattle.accuracy.specs.Accurate.{AccurateAfter}
 use Rattle.accuracy.proofs.Claims.{last-accurate}
 use Rattle.vcube.specs.Exports.{run_out}
-use Rattle.vcube.proofs.OnWiring.{no_other}
 use Rattle.vcube.proofs.vcube_run.Goals as goal
 
-pub returns-in-Err-clause-outcome : goal.returns-in-Err-clause-outcome
-returns-in-Err-clause-outcome c =
-    let e = sym c.in-Err.is ∙ c.try_from.ensures in
-    rw (← e, no_other _ _ e) refl
+pub returns-in_default-clause-counts_taken : goal.returns-in_default-clause-counts_taken
+unfolding taken_by
+returns-in_default-clause-counts_taken c = rw (← (sym c.in_default.is ∙ c.try_from.ensures))
 
-pub returns-in-Err-clause-counts_taken : goal.returns-in-Err-clause-counts_taken
-returns-in-Err-clause-counts_taken c = rw (← (sym c.in-Err.is ∙ c.try_from.ensures)) refl
-
-pub returns-in-Err-clause-detection : goal.returns-in-Err-clause-detection
-returns-in-Err-clause-detection c =
-    let e = sym c.in-Err.is ∙ c.try_from.ensures in
+pub returns-in_default-clause-detection : goal.returns-in_default-clause-detection
+returns-in_default-clause-detection c =
+    let e = sym c.in_default.is ∙ c.try_from.ensures in
     let before = state_of c.args.table.now c.args.rounds.now c.args.tests.now in
     rw (← e) (run-detects (call_of (Err _) c.args.n c.args.schedule.now c.args.sheet.now) before)
 
-pub returns-in-Err-clause-accurate : goal.returns-in-Err-clause-accurate
-returns-in-Err-clause-accurate c =
-    let e = sym c.in-Err.is ∙ c.try_from.ensures in
+pub returns-in_default-clause-accurate : goal.returns-in_default-clause-accurate
+returns-in_default-clause-accurate c =
+    let e = sym c.in_default.is ∙ c.try_from.ensures in
     let before = state_of c.args.table.now c.args.rounds.now c.args.tests.now in
     rw (← e) (last-accurate (a_run (call_of (Err _) c.args.n c.args.schedule.now c.args.sheet.now)) before)
 

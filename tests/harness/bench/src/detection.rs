@@ -46,10 +46,7 @@ pub fn rounds_until_known(
     let mut plant = without(wiring, n, dead);
     while !dead_are_known(&plant) {
         play_round(&mut plant, order, random);
-        assert!(
-            plant.tally.rounds <= most,
-            "more than the worst-case latency"
-        );
+        assert!(plant.tally.rounds <= most, "more than the worst-case latency");
     }
     plant.tally.rounds
 }
@@ -63,11 +60,8 @@ pub fn rounds_of_slowest(wiring: Wiring, slowest: &Slowest) -> Result<u32, Strin
     let mut turns = turns.iter();
     let mut close_round = |plant: &mut Plant| turns.any(|turn| take_turn(plant, turn[1].into()));
     while !dead_are_known(&plant) && close_round(&mut plant) {}
-    let (worst, rounds, known) = (
-        worst_case(wiring, n),
-        plant.tally.rounds,
-        dead_are_known(&plant),
-    );
+    let (worst, rounds, known) =
+        (worst_case(wiring, n), plant.tally.rounds, dead_are_known(&plant));
     match known && rounds == worst {
         true => Ok(worst),
         false => Err(format!(
@@ -101,9 +95,7 @@ pub fn dead_are_known(plant: &Plant) -> bool {
 fn take_turn(plant: &mut Plant, board: usize) -> bool {
     let (kind, station) = (Kind::Turn, Station(board));
     let rounds = plant.tally.rounds;
-    plant
-        .enter(Entry { kind, station })
-        .expect("a turn that is taken");
+    plant.enter(Entry { kind, station }).expect("a turn that is taken");
     plant.tally.rounds > rounds
 }
 

@@ -3,6 +3,9 @@
 
 #![forbid(unsafe_code)]
 
+use std::env;
+use std::process::ExitCode;
+
 pub mod detection;
 pub mod grants;
 pub mod measure;
@@ -16,3 +19,19 @@ pub mod plain_mend;
 pub mod plain_saved;
 pub mod plain_slot;
 pub mod work;
+
+/// Does the work of a program whose only option is `--quick`, or says what is wrong.
+pub fn run(name: &str, work: impl FnOnce(bool) -> Result<(), String>) -> ExitCode {
+    let words: Vec<String> = env::args().skip(1).collect();
+    if !words.is_empty() && words != ["--quick"] {
+        eprintln!("usage: {name} [--quick]");
+        return ExitCode::from(2);
+    }
+    match work(!words.is_empty()) {
+        Ok(()) => ExitCode::SUCCESS,
+        Err(error) => {
+            eprintln!("{name}: {error}");
+            ExitCode::FAILURE
+        }
+    }
+}

@@ -15,11 +15,7 @@ pub struct Batch<'a, W> {
 impl<'a, W> Batch<'a, W> {
     /// With what fills a work's buffer, and the length of the buffer for all.
     pub fn new(works: &'a [W], fill: impl Fn(&W) -> Vec<u8>, shared: usize) -> Batch<'a, W> {
-        Batch {
-            works,
-            filled: works.iter().map(fill).collect(),
-            shared,
-        }
+        Batch { works, filled: works.iter().map(fill).collect(), shared }
     }
 
     /// The seconds that the calls of all works take together with the library and with plain
@@ -52,13 +48,10 @@ impl<'a, W> Batch<'a, W> {
         &'b self,
         call: impl Fn(&W, &mut [u8], &mut [u8]) -> A + 'b,
     ) -> impl Iterator<Item = (A, Vec<u8>, Vec<u8>)> + 'b {
-        self.works
-            .iter()
-            .zip(&self.filled)
-            .map(move |(work, filled)| {
-                let (mut own, mut shared) = (filled.clone(), vec![0; self.shared]);
-                (call(work, &mut own, &mut shared), own, shared)
-            })
+        self.works.iter().zip(&self.filled).map(move |(work, filled)| {
+            let (mut own, mut shared) = (filled.clone(), vec![0; self.shared]);
+            (call(work, &mut own, &mut shared), own, shared)
+        })
     }
 
     fn time<A>(

@@ -37,9 +37,7 @@ pub fn search(wiring: Wiring, n: usize) -> Result<OneDead, String> {
     let is_within = most.grants <= proved.grants && most.rounds <= proved.rounds;
     match most == proved || is_within && (wiring, n) == (Wiring::Cube, 4) {
         true => Ok(most),
-        false => Err(format!(
-            "one dead of {n} boards, {wiring}: {most:?}; proved is {proved:?}"
-        )),
+        false => Err(format!("one dead of {n} boards, {wiring}: {most:?}; proved is {proved:?}")),
     }
 }
 
@@ -58,9 +56,7 @@ fn crash(mut plant: Plant, board: usize) -> Result<OneDead, String> {
             return Ok(OneDead { rounds, grants });
         }
     }
-    Err(format!(
-        "one dead of {n} boards, {wiring}: {board} is not known after {longest} rounds"
-    ))
+    Err(format!("one dead of {n} boards, {wiring}: {board} is not known after {longest} rounds"))
 }
 
 /// Drives until a test is made or the round closes: the count of tests is full then.

@@ -21,10 +21,8 @@ pub fn run(
     schedule: &[u8],
     sheet: &mut [u8],
 ) -> Answer {
-    let mut answer = Answer {
-        refusal: check_run(wiring, n, table, schedule, sheet).err(),
-        taken: 0,
-    };
+    let mut answer =
+        Answer { refusal: check_run(wiring, n, table, schedule, sheet).err(), taken: 0 };
     if answer.refusal.is_some() {
         return answer;
     }
@@ -61,12 +59,7 @@ fn check_run(
 /// was not so the loop was not aligned, and the check took twice the time.
 #[inline(never)]
 pub fn check_table(wiring: Wiring, n: usize, table: &[u8]) -> Result<(), Refusal> {
-    if !(2..=64).contains(&n) {
-        return Err(Refusal::SizeOutOfRange);
-    }
-    if table.len() != n * (n + HEAD) {
-        return Err(Refusal::TableLength);
-    }
+    check_shape(n, table)?;
     let end = end(wiring, n);
     let mut lines = table.chunks_exact(n + HEAD).enumerate();
     if !lines.all(|(i, line)| keeps_line_rules(end, i, line)) {
@@ -74,6 +67,17 @@ pub fn check_table(wiring: Wiring, n: usize, table: &[u8]) -> Result<(), Refusal
     }
     if is_round_over(n, table) {
         return Err(Refusal::RoundNotClosed);
+    }
+    Ok(())
+}
+
+/// Refusals 1 and 2.
+pub fn check_shape(n: usize, table: &[u8]) -> Result<(), Refusal> {
+    if !(2..=64).contains(&n) {
+        return Err(Refusal::SizeOutOfRange);
+    }
+    if table.len() != n * (n + HEAD) {
+        return Err(Refusal::TableLength);
     }
     Ok(())
 }

@@ -16,10 +16,7 @@ pub fn drive(
     last: &mut Option<Station>,
 ) -> Driven {
     let rounds = tally.rounds;
-    let mut driven = Driven {
-        refusal: check(wiring, n, table, *last).err(),
-        grants: 0,
-    };
+    let mut driven = Driven { refusal: check(wiring, n, table, *last).err(), grants: 0 };
     while driven.refusal.is_none() && tally.rounds == rounds && is_some_live(n, table) {
         if is_full(*tally) {
             driven.refusal = Some(Refusal::TallyFull);

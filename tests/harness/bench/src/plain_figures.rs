@@ -32,10 +32,7 @@ pub fn figures(results: &[u16]) -> Result<Figures, Refusal> {
 /// The lower part is not 0.
 fn lowest_terms(upper: u64, lower: u64) -> Fraction {
     let divisor = common_divisor(upper, lower);
-    Fraction {
-        upper: upper / divisor,
-        lower: lower / divisor,
-    }
+    Fraction { upper: upper / divisor, lower: lower / divisor }
 }
 
 /// The greatest common divisor.

@@ -7,10 +7,7 @@ use vcube::{Input, SCHEDULE_LENGTH};
 pub fn read_input(input: &[u8], schedule: &mut [u8; SCHEDULE_LENGTH]) -> Result<Input, usize> {
     let text = input.strip_suffix(b"\n").unwrap_or(input);
     let mut lines = text.split(|byte| *byte == b'\n');
-    let n = lines
-        .next()
-        .and_then(|line| number(line, 3))
-        .ok_or(1_usize)?;
+    let n = lines.next().and_then(|line| number(line, 3)).ok_or(1_usize)?;
     let mut places = schedule.chunks_exact_mut(2);
     let mut entries = 0;
     for line in lines {

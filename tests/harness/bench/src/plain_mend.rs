@@ -1,6 +1,6 @@
 //! Mending in plain Rust over the lent bytes.
 
-use crate::plain::{end, is_another, keeps_pass_rules};
+use crate::plain::{check_shape, end, is_another, keeps_pass_rules};
 use shared::table::{CLOSED_SINCE, CRASHED, FINISHED, HEAD, LEFT_ALONE, LEFT_TOLD, LIVE};
 use shared::table::{NEXT_DISTANCE, NOT_RECORDED, STATUS, TESTS, TOLD_BY, TOLD_BY_NONE};
 use vcube::{Refusal, Wiring};
@@ -16,12 +16,7 @@ pub fn mend(
     table: &mut [u8],
     report: &mut [u8],
 ) -> Result<usize, Refusal> {
-    if !(2..=64).contains(&n) {
-        return Err(Refusal::SizeOutOfRange);
-    }
-    if table.len() != n * (n + HEAD) {
-        return Err(Refusal::TableLength);
-    }
+    check_shape(n, table)?;
     if report.len() < CHANGE * table.len() {
         return Err(Refusal::ReportTooShort);
     }

@@ -25,10 +25,7 @@ pub fn slot(n: usize, table: &[u8], Station(i): Station) -> Result<Slot, Refusal
         row[k] = before;
         tests
     });
-    Ok(Slot {
-        most: tests_without.max().unwrap_or(0),
-        tests: tests_now,
-    })
+    Ok(Slot { most: tests_without.max().unwrap_or(0), tests: tests_now })
 }
 
 /// How many distances are due by the row.

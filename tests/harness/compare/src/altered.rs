@@ -3,11 +3,13 @@
 
 use std::path::Path;
 
+use shared::call::{Answer, Call};
+use shared::header::{self, Function};
+use shared::record;
+
 use crate::answer::answer;
-use crate::call::{Answer, Call};
 use crate::generate::Source;
-use crate::header::{self, Function};
-use crate::{record, replayer};
+use crate::replayer;
 
 /// Among so many calls each function has one that is accepted.
 const ENOUGH: u64 = 6_000;
@@ -47,10 +49,7 @@ fn accepted(source: Source, function: &Function) -> Result<(Call, Answer), Strin
 }
 
 fn alterations(call: &Call, right: &Answer) -> Vec<Answer> {
-    let mut altered = vec![Answer {
-        number: right.number + 1,
-        ..right.clone()
-    }];
+    let mut altered = vec![Answer { number: right.number + 1, ..right.clone() }];
     for (k, argument) in call.function.arguments.iter().enumerate() {
         if argument.form.is_number() || argument.form.is_read_only() {
             continue;

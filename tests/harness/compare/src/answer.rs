@@ -5,7 +5,7 @@
 
 use simulator::{Figures, Fraction, Given, Totals};
 
-use crate::call::{members, number, Answer, Call};
+use shared::call::{members, number, Answer, Call};
 
 pub fn answer(call: &Call) -> Answer {
     let mut arguments = call.arguments.clone();
@@ -155,10 +155,9 @@ fn make(name: &str, arguments: &mut [Vec<u8>]) -> u8 {
         ("vcube_board_round_closed", [wiring, n, own, line]) => {
             simulator::board_round_closed(given(wiring, n, own), line)
         }
-        (name, arguments) => panic!(
-            "{name} with {} arguments: the simulator has no such call",
-            arguments.len()
-        ),
+        (name, arguments) => {
+            panic!("{name} with {} arguments: the simulator has no such call", arguments.len())
+        }
     }
 }
 
@@ -172,11 +171,7 @@ fn narrow(bytes: &[u8]) -> u8 {
 }
 
 fn given(wiring: &[u8], n: &[u8], own: &[u8]) -> Given {
-    Given {
-        wiring: wide(wiring),
-        n: wide(n),
-        own: narrow(own),
-    }
+    Given { wiring: wide(wiring), n: wide(n), own: narrow(own) }
 }
 
 /// Rounds and tests.
@@ -205,10 +200,7 @@ fn put_byte(place: &mut [u8], (number, figure): (u8, u8)) -> u8 {
 }
 
 fn results(bytes: &[u8]) -> Vec<u16> {
-    bytes
-        .chunks_exact(2)
-        .map(|pair| u16::from_le_bytes([pair[0], pair[1]]))
-        .collect()
+    bytes.chunks_exact(2).map(|pair| u16::from_le_bytes([pair[0], pair[1]])).collect()
 }
 
 fn totals(bytes: &[u8]) -> Totals {
@@ -216,21 +208,12 @@ fn totals(bytes: &[u8]) -> Totals {
     let [count, sum, squares, least, greatest] = members[..] else {
         panic!("not the bytes of totals");
     };
-    Totals {
-        number: 0,
-        count,
-        sum,
-        squares,
-        least,
-        greatest,
-    }
+    Totals { number: 0, count, sum, squares, least, greatest }
 }
 
 /// Count, sum, squares, least, greatest.
 pub fn members_of(totals: &Totals) -> [u64; 5] {
-    let Totals {
-        least, greatest, ..
-    } = *totals;
+    let Totals { least, greatest, .. } = *totals;
     [totals.count, totals.sum, totals.squares, least, greatest]
 }
 

@@ -5,8 +5,10 @@ use std::ops::RangeInclusive;
 use std::sync::mpsc::sync_channel;
 use std::thread;
 
+use shared::record;
+
+use crate::answer;
 use crate::generate::Source;
-use crate::{answer, record};
 
 /// The calls of a block.
 const CALLS: usize = 256;

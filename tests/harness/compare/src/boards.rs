@@ -80,9 +80,7 @@ fn run(schedule: &Schedule) -> Result<Done, String> {
         cable.encode(&mut lines);
         if let Some(at) = (0..lines.len()).find(|at| lines[*at] != table[*at]) {
             let [line, table] = [lines[at], table[at]];
-            return differ(format!(
-                "byte {at} of the table is {table}, of the lines {line}"
-            ));
+            return differ(format!("byte {at} of the table is {table}, of the lines {line}"));
         }
         record.extend([&entry[..], &[given.number], &sheet].concat());
     }

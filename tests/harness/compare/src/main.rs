@@ -6,12 +6,9 @@ mod altered;
 mod answer;
 mod blocks;
 mod boards;
-mod call;
 mod generate;
-mod header;
 mod options;
 mod printed;
-mod record;
 mod replayer;
 mod smallest;
 mod turned;
@@ -22,6 +19,8 @@ use std::io::{self, BufReader, Read, Write};
 use std::panic;
 use std::path::{Path, PathBuf};
 use std::process::ExitCode;
+
+use shared::record::Reader;
 
 use generate::Source;
 use options::{Options, Task};
@@ -42,11 +41,9 @@ fn main() -> ExitCode {
 
 fn work(options: &Options) -> Result<String, String> {
     match &options.task {
-        Task::Print => Ok(options
-            .numbers
-            .clone()
-            .map(|number| described(options.source, number))
-            .collect()),
+        Task::Print => {
+            Ok(options.numbers.clone().map(|number| described(options.source, number)).collect())
+        }
         Task::Record(path) => write(options, path)
             .map_err(|error| format!("compare: cannot write {}: {error}", path.display())),
         Task::Altered(programs) => alter(options.source, programs),
@@ -87,9 +84,7 @@ fn alter(source: Source, programs: &[PathBuf]) -> Result<String, String> {
     for program in programs {
         noticed += altered::check(source, program)?;
     }
-    Ok(format!(
-        "compare: all {noticed} altered answers are noticed"
-    ))
+    Ok(format!("compare: all {noticed} altered answers are noticed"))
 }
 
 /// Lets the programs make the calls. Where one gives something else, it and a small one are printed.
@@ -97,11 +92,7 @@ fn compare(options: &Options, programs: &[PathBuf]) -> Result<String, String> {
     let started = programs.iter().map(|program| Replayer::start(program));
     let mut replayers = started.collect::<Result<Vec<_>, _>>()?;
     let numbers = &options.numbers;
-    let copies = if numbers.start() == numbers.end() {
-        COPIES
-    } else {
-        1
-    };
+    let copies = if numbers.start() == numbers.end() { COPIES } else { 1 };
     blocks::record(options.source, numbers.clone(), |block| {
         let block = block.repeat(copies);
         replayers.iter_mut().all(|replayer| replayer.feed(&block))
@@ -139,19 +130,17 @@ fn answer_again(path: &Path) -> Result<String, String> {
         Some("-") => Box::new(io::stdin().lock()),
         _ => Box::new(File::open(path).map_err(failed)?),
     };
-    let mut calls = record::Reader(BufReader::with_capacity(1 << 20, from));
+    let mut calls = Reader(BufReader::with_capacity(1 << 20, from));
     panic::set_hook(Box::new(|_| {}));
     let mut different = BTreeMap::new();
     let mut made = 0;
-    while let Some((call, recorded)) = calls.next().map_err(failed)? {
+    while let Some((call, recorded)) = calls.next_call().map_err(failed)? {
         made += 1;
         let given = panic::catch_unwind(|| answer::answer(&call)).ok();
         if given.as_ref() != Some(&recorded) {
             let given = given.map_or("nothing".into(), |given| given.number.to_string());
-            let first = format!(
-                "the first is call {made}: number {given}, recorded {}",
-                recorded.number
-            );
+            let first =
+                format!("the first is call {made}: number {given}, recorded {}", recorded.number);
             different.entry(call.function.name).or_insert((0, first)).0 += 1;
         }
     }
@@ -160,9 +149,9 @@ fn answer_again(path: &Path) -> Result<String, String> {
     }
     match (made, different.is_empty()) {
         (0, _) => Err(String::from("compare: the record has no call")),
-        (_, true) => Ok(format!(
-            "compare: the simulator gives what is recorded for all {made} calls"
-        )),
+        (_, true) => {
+            Ok(format!("compare: the simulator gives what is recorded for all {made} calls"))
+        }
         _ => Err(format!(
             "compare: the simulator gives something else than is recorded for some of {made} calls"
         )),

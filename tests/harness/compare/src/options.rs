@@ -50,10 +50,7 @@ impl Options {
     /// None if the words are wrong.
     fn of(mut words: impl Iterator<Item = OsString>) -> Option<Options> {
         let number = |word: Option<OsString>| word?.to_str()?.parse().ok();
-        let mut source = Source {
-            seed: DEFAULT_SEED,
-            is_long: false,
-        };
+        let mut source = Source { seed: DEFAULT_SEED, is_long: false };
         let (mut numbers, mut task) = (1..=DEFAULT_CALLS, Task::Print);
         while let Some(word) = words.next() {
             match word.to_str()? {
@@ -81,10 +78,6 @@ impl Options {
             Task::With(paths) | Task::Altered(paths) | Task::Turned(_, paths) => !paths.is_empty(),
             _ => true,
         };
-        is_complete.then_some(Options {
-            source,
-            numbers,
-            task,
-        })
+        is_complete.then_some(Options { source, numbers, task })
     }
 }

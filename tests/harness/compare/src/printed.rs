@@ -1,7 +1,7 @@
 //! A call and its answer, for people.
 
-use crate::call::{number, Answer, Call};
-use crate::header::Argument;
+use shared::call::{number, Answer, Call};
+use shared::header::Argument;
 
 /// The arguments, and those that are others afterwards.
 pub fn call(call: &Call, answer: &Answer) -> String {

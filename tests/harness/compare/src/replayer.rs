@@ -26,19 +26,11 @@ pub struct Replayer<'a> {
 impl Replayer<'_> {
     pub fn start(path: &Path) -> Result<Replayer<'_>, String> {
         let mut command = Command::new(path);
-        command
-            .arg("-")
-            .stdin(Stdio::piped())
-            .stdout(Stdio::piped())
-            .stderr(Stdio::piped());
+        command.arg("-").stdin(Stdio::piped()).stdout(Stdio::piped()).stderr(Stdio::piped());
         let child = command
             .spawn()
             .map_err(|error| format!("compare: cannot start {}: {error}", path.display()))?;
-        Ok(Replayer {
-            path,
-            child,
-            takes_more: true,
-        })
+        Ok(Replayer { path, child, takes_more: true })
     }
 
     /// Hands over more of the record. Whether the program takes more.
@@ -52,10 +44,7 @@ impl Replayer<'_> {
     pub fn finish(mut self) -> Result<(Option<Difference>, String), String> {
         drop(self.child.stdin.take());
         let failed = |what: &str| format!("compare: {}: {what}", self.path.display());
-        let output = self
-            .child
-            .wait_with_output()
-            .map_err(|error| failed(&error.to_string()))?;
+        let output = self.child.wait_with_output().map_err(|error| failed(&error.to_string()))?;
         let text = [output.stderr, output.stdout].concat();
         let text = String::from_utf8_lossy(&text).trim_end().to_owned();
         match (output.status.code(), first_difference(&text)) {
@@ -75,15 +64,10 @@ pub fn replay(path: &Path, record: &[u8]) -> Result<Option<Difference>, String> 
 
 /// The lines of the first call that is named.
 fn first_difference(text: &str) -> Option<Difference> {
-    let mut named = text
-        .lines()
-        .filter_map(|line| Some((number_in(line)?, line)))
-        .peekable();
+    let mut named = text.lines().filter_map(|line| Some((number_in(line)?, line))).peekable();
     let number = named.peek()?.0;
-    let lines: Vec<&str> = named
-        .filter(|(other, _)| *other == number)
-        .map(|(_, line)| line)
-        .collect();
+    let lines: Vec<&str> =
+        named.filter(|(other, _)| *other == number).map(|(_, line)| line).collect();
     let text = lines.join("\n");
     Some(Difference { number, text })
 }
@@ -91,8 +75,6 @@ fn first_difference(text: &str) -> Option<Difference> {
 /// The number behind `call `.
 fn number_in(line: &str) -> Option<u64> {
     let (_, behind) = line.split_once("call ")?;
-    let digits = behind
-        .split(|letter: char| !letter.is_ascii_digit())
-        .next()?;
+    let digits = behind.split(|letter: char| !letter.is_ascii_digit()).next()?;
     digits.parse().ok()
 }

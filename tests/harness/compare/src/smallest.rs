@@ -2,10 +2,11 @@
 
 use std::path::Path;
 
+use shared::call::Call;
+use shared::record;
+
 use crate::answer::answer;
-use crate::call::Call;
 use crate::generate::Source;
-use crate::record;
 use crate::replayer::{self, COPIES};
 
 /// So many calls are looked through.

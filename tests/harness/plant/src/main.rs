@@ -22,13 +22,7 @@ impl Plant {
     fn fresh(wiring: usize, n: usize) -> Result<Plant, String> {
         let mut table = vec![0; n * (n + HEAD)];
         match fresh_table(wiring, n, &mut table) {
-            0 => Ok(Plant {
-                wiring,
-                n,
-                table,
-                tally: (0, 0),
-                last: NONE,
-            }),
+            0 => Ok(Plant { wiring, n, table, tally: (0, 0), last: NONE }),
             refusal => Err(format!("the simulator refuses the size {n}: {refusal}")),
         }
     }

@@ -26,11 +26,7 @@ impl Style {
             true => ([0, 0, 0, 200, 1_000], [0, 0, 0, 100, 1_000]),
             false => ([0, 0, 3, 10, 40], [0, 0, 5, 20, 60]),
         };
-        Style {
-            late: random.pick(&late),
-            crash: random.pick(&crash),
-            in_turn: random.once_in(2),
-        }
+        Style { late: random.pick(&late), crash: random.pick(&crash), in_turn: random.once_in(2) }
     }
 
     /// Some entries of the stations given, whatever the table holds.

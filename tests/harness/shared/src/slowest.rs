@@ -52,11 +52,7 @@ impl Plant {
         let pass = |i: &usize| vec![[TURN, *i as u8]; if *i == n - 1 { 3 } else { 2 }];
         let round: Vec<Entry> = unlucky_order(n).iter().flat_map(pass).collect();
         let entries = [vec![[CRASH, 0]], round.repeat(n / 2)].concat();
-        Plant {
-            n,
-            dead: 1,
-            entries,
-        }
+        Plant { n, dead: 1, entries }
     }
 
     /// None if the line has another form, or if fewer than two boards stay live.

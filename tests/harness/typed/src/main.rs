@@ -3,7 +3,7 @@
 //!
 //! Usage: replay-typed FILE
 //!
-//! FILE may be `-`, which is standard input. tests/harness/compare/src/record.rs says
+//! FILE may be `-`, which is standard input. tests/harness/shared/src/record.rs says
 //! how a record is written; `compare --with` starts this program.
 //!
 //! Each call on a table is made twice: by the function over slices, and by the method of
@@ -19,11 +19,13 @@
 use std::collections::BTreeSet;
 use std::env;
 use std::fs::File;
-use std::io::{self, BufRead, BufReader};
+use std::io::{self, BufReader, Read};
 use std::panic;
 use std::process::ExitCode;
 use std::sync::atomic::{AtomicU64, Ordering};
 
+use shared::header::Function;
+use shared::record::Reader;
 use vcube::*;
 
 use Argument::{Bytes, Counter, Figure, Members, Number, Results, Size};
@@ -47,14 +49,6 @@ enum Argument {
     Members(Vec<u64>),
 }
 
-/// A recorded call: its arguments before it and after it, and the number.
-struct Call {
-    function: String,
-    before: Vec<Argument>,
-    after: Vec<Argument>,
-    number: u8,
-}
-
 /// Numbers of eight bytes, the low one first.
 fn wide(bytes: &[u8]) -> Vec<u64> {
     let (numbers, _) = bytes.as_chunks();
@@ -74,65 +68,20 @@ fn results(bytes: &[u8]) -> Vec<u16> {
     results.iter().copied().map(u16::from_le_bytes).collect()
 }
 
-/// What stands at a pointer of this form.
-fn pointed(form: u8, bytes: &[u8]) -> Option<Argument> {
-    Some(match form.to_ascii_lowercase() {
-        b'b' => Bytes(bytes.to_vec()),
-        b'r' => Results(results(bytes)),
-        b's' => Figure(size(bytes)),
-        b'i' => Counter(narrow(bytes)),
-        b't' => Members(wide(bytes)),
-        _ => return None,
-    })
-}
-
-fn take(record: &mut impl BufRead, length: usize) -> io::Result<Vec<u8>> {
-    let mut bytes = vec![0; length];
-    record.read_exact(&mut bytes)?;
-    Ok(bytes)
-}
-
-/// The next call of a record; none at its end.
-fn next_call(record: &mut impl BufRead) -> io::Result<Option<Call>> {
-    let mut function = Vec::new();
-    if record.read_until(0, &mut function)? == 0 {
-        return Ok(None);
-    }
-    function.pop();
-    let (mut before, mut after) = (Vec::new(), Vec::new());
-    loop {
-        let form = take(record, 1)?[0];
-        let (one, other) = match form {
-            b'.' => break,
-            b'n' => {
-                let number = Size(size(&take(record, 8)?));
-                (number.clone(), number)
-            }
-            b'w' => {
-                let number = Number(narrow(&take(record, 4)?));
-                (number.clone(), number)
-            }
-            _ => {
-                let length = narrow(&take(record, 4)?) as usize;
-                let bytes = take(record, length)?;
-                let left = match take(record, 1)?[0] {
-                    b'=' => bytes.clone(),
-                    _ => take(record, length)?,
-                };
-                let unknown = || io::Error::other(format!("an argument of the form {form}"));
-                let one = pointed(form, &bytes).ok_or_else(unknown)?;
-                (one, pointed(form, &left).ok_or_else(unknown)?)
-            }
-        };
-        before.push(one);
-        after.push(other);
-    }
-    Ok(Some(Call {
-        function: String::from_utf8_lossy(&function).into_owned(),
-        before,
-        after,
-        number: take(record, 1)?[0],
-    }))
+/// What a call has as its arguments, before or after it.
+fn arguments(function: &Function, values: &[Vec<u8>]) -> Vec<Argument> {
+    let arguments = function.arguments.iter().zip(values);
+    let typed =
+        arguments.map(|(argument, bytes)| match argument.form.letter.to_ascii_lowercase() {
+            b'n' => Size(size(bytes)),
+            b'w' => Number(narrow(bytes)),
+            b'b' => Bytes(bytes.clone()),
+            b'r' => Results(results(bytes)),
+            b's' => Figure(size(bytes)),
+            b'i' => Counter(narrow(bytes)),
+            _ => Members(wide(bytes)),
+        });
+    typed.collect()
 }
 
 /// 0 or the number of the refusal.
@@ -162,13 +111,7 @@ fn totals(members: &[u64]) -> Totals {
     let [count, sum, squares, least, greatest] = *members else {
         panic!("totals have five members, not {}", members.len());
     };
-    Totals {
-        count,
-        sum,
-        squares,
-        least,
-        greatest,
-    }
+    Totals { count, sum, squares, least, greatest }
 }
 
 /// Puts totals there, zeros where the call was refused; gives the number.
@@ -201,10 +144,7 @@ fn put_words(place: &mut [u8], words: &str) -> u8 {
 fn typed_schedule(bytes: &[u8]) -> Vec<u8> {
     let (pairs, rest) = bytes.as_chunks();
     let entries = pairs.iter().map(|[kind, station]| {
-        Some(Entry {
-            kind: Kind::from_number(*kind)?,
-            station: Station(usize::from(*station)),
-        })
+        Some(Entry { kind: Kind::from_number(*kind)?, station: Station(usize::from(*station)) })
     });
     match entries.collect::<Option<Vec<Entry>>>() {
         Some(entries) if rest.is_empty() => schedule(&entries),
@@ -244,11 +184,7 @@ fn check_assignment(
     entries: Result<Vec<AssignmentEntry>, Refusal>,
     due: Result<Vec<Distance>, Refusal>,
 ) {
-    let refusals = [
-        given.err(),
-        entries.as_ref().err().copied(),
-        due.as_ref().err().copied(),
-    ];
+    let refusals = [given.err(), entries.as_ref().err().copied(), due.as_ref().err().copied()];
     assert_eq!(refusals, [given.err(); 3]);
     let (Ok(count), Ok(entries), Ok(due)) = (given, entries, due) else {
         return;
@@ -258,14 +194,8 @@ fn check_assignment(
         DueOrAhead::Ahead(station) => [entry.distance.0, byte(station)],
     });
     assert!(bytes.eq(list.iter().copied()));
-    let of_entries = entries
-        .iter()
-        .filter(|entry| entry.answer == DueOrAhead::Due);
-    assert!(
-        of_entries
-            .map(|entry| entry.distance)
-            .eq(due.iter().copied())
-    );
+    let of_entries = entries.iter().filter(|entry| entry.answer == DueOrAhead::Due);
+    assert!(of_entries.map(|entry| entry.distance).eq(due.iter().copied()));
     assert_eq!(due.len(), count);
 }
 
@@ -294,10 +224,7 @@ fn check_head(
     let of_told_by = told_by(wiring, n, table, station).map(|told_by| told_by_byte(n, told_by));
     let of_rounds_ago = rounds_ago(wiring, n, table, station);
     let expected = |column: usize| row.map(|_| table[station.0 * (n + HEAD) + column]);
-    assert_eq!(
-        [of_status, of_told_by, of_rounds_ago],
-        [0, 4, 5].map(expected)
-    );
+    assert_eq!([of_status, of_told_by, of_rounds_ago], [0, 4, 5].map(expected));
 }
 
 /// A plant with this table. None where the plant refuses it: a call on it is then refused so.
@@ -319,21 +246,9 @@ fn check_lines(wiring: Wiring, n: usize, table: &[u8], of: Station, row: Result<
         Err(refusal) => return assert_eq!(row, Err(refusal)),
     };
     assert_eq!(lines.len(), n);
-    assert!(
-        plant
-            .statuses()
-            .is_ok_and(|all| all.eq(lines.iter().map(|line| line.status())))
-    );
-    assert!(
-        plant
-            .told_by()
-            .is_ok_and(|all| all.eq(lines.iter().map(|line| line.told_by())))
-    );
-    assert!(
-        plant
-            .rounds_ago()
-            .is_ok_and(|all| all.eq(lines.iter().map(|line| line.rounds_ago())))
-    );
+    assert!(plant.statuses().is_ok_and(|all| all.eq(lines.iter().map(|line| line.status()))));
+    assert!(plant.told_by().is_ok_and(|all| all.eq(lines.iter().map(|line| line.told_by()))));
+    assert!(plant.rounds_ago().is_ok_and(|all| all.eq(lines.iter().map(|line| line.rounds_ago()))));
     for (line, bytes) in lines.iter().zip(table.chunks(n + HEAD)) {
         let told_by = told_by_byte(n, line.told_by());
         let head = [
@@ -347,11 +262,7 @@ fn check_lines(wiring: Wiring, n: usize, table: &[u8], of: Station, row: Result<
         assert_eq!((&head[..], line.row()), bytes.split_at(HEAD));
         let suspected = (0..n).map(Station).filter(|other| line.suspects(*other));
         assert!(line.suspected().eq(suspected));
-        assert!(
-            plant
-                .board(line.station())
-                .is_ok_and(|board| board.line() == bytes)
-        );
+        assert!(plant.board(line.station()).is_ok_and(|board| board.line() == bytes));
     }
 }
 
@@ -359,13 +270,7 @@ fn check_lines(wiring: Wiring, n: usize, table: &[u8], of: Station, row: Result<
 /// besides.
 fn check_changes(n: usize, before: &[u8], table: &[u8], report: &[u8], count: usize) {
     let mut mended = before.to_vec();
-    for Change {
-        line,
-        byte,
-        old,
-        new,
-    } in changes(n, report, count)
-    {
+    for Change { line, byte, old, new } in changes(n, report, count) {
         let column = match byte {
             LineByte::Status => 0,
             LineByte::NextDistance => 1,
@@ -406,12 +311,14 @@ fn put_outcome(place: &mut usize, given: Result<Outcome, Refusal>) -> u8 {
     number(given)
 }
 
-/// `by_numbers!(function(argument, [buffer], ..))` is the number of a call of vcube-sys. Of
-/// a buffer its pointer goes in, and its length. The other pointers are borrows, which are
-/// valid, and the library writes only where it may.
+/// `by_numbers!(function(argument, [buffer], ..))` makes the call by vcube-sys and returns its
+/// number. Of a buffer its pointer goes in, and its length. The other pointers are borrows,
+/// which are valid, and the library writes only where it may.
 macro_rules! by_numbers {
     ($function:ident($($arguments:tt)*)) => { by_numbers!(@ $function [] $($arguments)*,) };
-    (@ $function:ident [$($given:tt)*] $(,)?) => { unsafe { vcube_sys::$function($($given)*) } };
+    (@ $function:ident [$($given:tt)*] $(,)?) => {
+        return Some(ByNumbers(unsafe { vcube_sys::$function($($given)*) }))
+    };
     (@ $function:ident [$($given:tt)*] [$buffer:ident], $($left:tt)*) => {
         by_numbers!(@ $function [$($given)* $buffer.as_mut_ptr(), $buffer.len(),] $($left)*)
     };
@@ -427,16 +334,12 @@ enum Made {
 }
 
 /// Makes a call, through the types if they can express it: what it gives is then put
-/// where the library would put it. None where the header has no such call.
+/// where the library would put it. None where it is a call that is not made here.
 fn make(function: &str, lent: &mut [Argument]) -> Option<Made> {
     let number = match (function, lent) {
         ("vcube_fresh_table", [Size(wired), Size(n), Bytes(table)]) => {
             let Some(wiring) = wiring(*wired) else {
-                return Some(ByNumbers(by_numbers!(vcube_fresh_table(
-                    *wired,
-                    *n,
-                    [table]
-                ))));
+                by_numbers!(vcube_fresh_table(*wired, *n, [table]));
             };
             let given = fresh_table(wiring, *n, table);
             let plant = Plant::new(wiring, *n);
@@ -464,13 +367,7 @@ fn make(function: &str, lent: &mut [Argument]) -> Option<Made> {
         }
         (
             "vcube_assignment",
-            [
-                Size(n),
-                Bytes(table),
-                Size(station),
-                Bytes(list),
-                Figure(count),
-            ],
+            [Size(n), Bytes(table), Size(station), Bytes(list), Figure(count)],
         ) => {
             let station = Station(*station);
             let given = assignment(*n, table, station, list);
@@ -483,33 +380,17 @@ fn make(function: &str, lent: &mut [Argument]) -> Option<Made> {
                 && given != Err(Refusal::ListLength)
             {
                 assert_eq!(
-                    plant
-                        .assignment(station)
-                        .map(|entries| entries.collect::<Vec<_>>()),
+                    plant.assignment(station).map(|entries| entries.collect::<Vec<_>>()),
                     entries
                 );
-                assert_eq!(
-                    plant
-                        .due_distances(station)
-                        .map(|due| due.collect::<Vec<_>>()),
-                    due
-                );
+                assert_eq!(plant.due_distances(station).map(|due| due.collect::<Vec<_>>()), due);
             }
             check_assignment(list, given, entries, due);
             assert!(given.is_err() || list.len() == assignment_length(*n));
             *count = given.unwrap_or(0);
             number(given)
         }
-        (
-            "vcube_slot",
-            [
-                Size(n),
-                Bytes(table),
-                Size(station),
-                Figure(tests),
-                Figure(most),
-            ],
-        ) => {
+        ("vcube_slot", [Size(n), Bytes(table), Size(station), Figure(tests), Figure(most)]) => {
             let given = slot(*n, table, Station(*station));
             if let Some(plant) = plant_with(Wiring::Cube, *n, table, given.err()) {
                 assert_eq!(plant.slot(Station(*station)), given);
@@ -519,24 +400,10 @@ fn make(function: &str, lent: &mut [Argument]) -> Option<Made> {
         }
         (
             "vcube_row",
-            [
-                Size(wired),
-                Size(n),
-                Bytes(table),
-                Size(station),
-                Figure(start),
-                Figure(length),
-            ],
+            [Size(wired), Size(n), Bytes(table), Size(station), Figure(start), Figure(length)],
         ) => {
             let Some(wiring) = wiring(*wired) else {
-                return Some(ByNumbers(by_numbers!(vcube_row(
-                    *wired,
-                    *n,
-                    [table],
-                    *station,
-                    start,
-                    length
-                ))));
+                by_numbers!(vcube_row(*wired, *n, [table], *station, start, length));
             };
             let station = Station(*station);
             let given = row(wiring, *n, table, station);
@@ -560,7 +427,7 @@ fn make(function: &str, lent: &mut [Argument]) -> Option<Made> {
             ],
         ) => {
             let Some(wiring) = wiring(*wired) else {
-                let number = by_numbers!(vcube_run(
+                by_numbers!(vcube_run(
                     *wired,
                     *n,
                     [table],
@@ -570,30 +437,16 @@ fn make(function: &str, lent: &mut [Argument]) -> Option<Made> {
                     [sheet],
                     taken
                 ));
-                return Some(ByNumbers(number));
             };
             let (before, sheet_before) = (table.clone(), sheet.clone());
-            let mut tally = Tally {
-                rounds: *rounds,
-                tests: *tests,
-            };
+            let mut tally = Tally { rounds: *rounds, tests: *tests };
             let handed_in = tally;
-            let answer = run(
-                wiring,
-                *n,
-                table,
-                &mut tally,
-                &typed_schedule(schedule),
-                sheet,
-            );
+            let answer = run(wiring, *n, table, &mut tally, &typed_schedule(schedule), sheet);
             if let Some(mut plant) = plant_with(wiring, *n, &before, answer.refusal) {
                 plant.tally = handed_in;
                 let (mut other, mut own_sheet) = (plant.clone(), sheet_before);
                 assert_eq!(plant.run(schedule, &mut own_sheet), answer);
-                assert_eq!(
-                    (plant.table(), plant.tally, &own_sheet),
-                    (&table[..], tally, &*sheet)
-                );
+                assert_eq!((plant.table(), plant.tally, &own_sheet), (&table[..], tally, &*sheet));
                 if let (&[kind, station], &mut [a, b, c, d]) = (&schedule[..], &mut sheet[..])
                     && let Some(kind) = Kind::from_number(kind)
                 {
@@ -612,24 +465,9 @@ fn make(function: &str, lent: &mut [Argument]) -> Option<Made> {
             check_sheet(*n, &before, table, sheet, answer.taken);
             answer.refusal.map_or(0, Refusal::number)
         }
-        (
-            "vcube_grant",
-            [
-                Size(wired),
-                Size(n),
-                Bytes(table),
-                Size(last),
-                Figure(station),
-            ],
-        ) => {
+        ("vcube_grant", [Size(wired), Size(n), Bytes(table), Size(last), Figure(station)]) => {
             let Some(wiring) = wiring(*wired) else {
-                return Some(ByNumbers(by_numbers!(vcube_grant(
-                    *wired,
-                    *n,
-                    [table],
-                    *last,
-                    station
-                ))));
+                by_numbers!(vcube_grant(*wired, *n, [table], *last, station));
             };
             let given = grant(wiring, *n, table, last_station(*last));
             assert_eq!(given, grant(wiring, *n, table, Some(Station(*last))));
@@ -653,21 +491,9 @@ fn make(function: &str, lent: &mut [Argument]) -> Option<Made> {
             ],
         ) => {
             let Some(wiring) = wiring(*wired) else {
-                let number = by_numbers!(vcube_drive(
-                    *wired,
-                    *n,
-                    [table],
-                    rounds,
-                    tests,
-                    last,
-                    grants
-                ));
-                return Some(ByNumbers(number));
+                by_numbers!(vcube_drive(*wired, *n, [table], rounds, tests, last, grants));
             };
-            let mut tally = Tally {
-                rounds: *rounds,
-                tests: *tests,
-            };
+            let mut tally = Tally { rounds: *rounds, tests: *tests };
             let mut station = last_station(*last);
             let mut plant = Plant::from_table(wiring, *n, table);
             if let Ok(plant) = &mut plant {
@@ -690,13 +516,7 @@ fn make(function: &str, lent: &mut [Argument]) -> Option<Made> {
         }
         ("vcube_doubt_lamp", [Size(wired), Size(n), Bytes(table), Figure(by), Figure(of)]) => {
             let Some(wiring) = wiring(*wired) else {
-                return Some(ByNumbers(by_numbers!(vcube_doubt_lamp(
-                    *wired,
-                    *n,
-                    [table],
-                    by,
-                    of
-                ))));
+                by_numbers!(vcube_doubt_lamp(*wired, *n, [table], by, of));
             };
             let given = doubt_lamp(wiring, *n, table);
             if let Some(plant) = plant_with(wiring, *n, table, given.err()) {
@@ -724,7 +544,7 @@ fn make(function: &str, lent: &mut [Argument]) -> Option<Made> {
             let places = [rounds, per_round, until_known, from_crash];
             let Some(wiring) = wiring(*wired) else {
                 let [rounds, per_round, until_known, from_crash] = places;
-                let number = by_numbers!(vcube_wait(
+                by_numbers!(vcube_wait(
                     *wired,
                     *n,
                     [table],
@@ -733,19 +553,13 @@ fn make(function: &str, lent: &mut [Argument]) -> Option<Made> {
                     until_known,
                     from_crash
                 ));
-                return Some(ByNumbers(number));
             };
             let given = wait(wiring, *n, table);
             if let Some(plant) = plant_with(wiring, *n, table, given.err()) {
                 assert_eq!(plant.wait(), given);
             }
             let figures = given.map_or([0; 4], |wait| {
-                [
-                    wait.rounds,
-                    wait.turns_per_round,
-                    wait.turns_until_known,
-                    wait.turns_from_crash,
-                ]
+                [wait.rounds, wait.turns_per_round, wait.turns_until_known, wait.turns_from_crash]
             });
             for (place, figure) in places.into_iter().zip(figures) {
                 *place = figure;
@@ -754,8 +568,7 @@ fn make(function: &str, lent: &mut [Argument]) -> Option<Made> {
         }
         ("vcube_one_dead", [Size(wired), Size(n), Figure(rounds), Figure(grants)]) => {
             let Some(wiring) = wiring(*wired) else {
-                let number = by_numbers!(vcube_one_dead(*wired, *n, rounds, grants));
-                return Some(ByNumbers(number));
+                by_numbers!(vcube_one_dead(*wired, *n, rounds, grants));
             };
             let given = one_dead(wiring, *n);
             match Plant::new(wiring, *n) {
@@ -766,31 +579,15 @@ fn make(function: &str, lent: &mut [Argument]) -> Option<Made> {
             (*rounds, *grants) = known.map_or((0, 0), |known| (known.rounds, known.grants));
             number(given)
         }
-        (
-            "vcube_mend",
-            [
-                Size(wired),
-                Size(n),
-                Bytes(table),
-                Bytes(report),
-                Figure(count),
-            ],
-        ) => {
+        ("vcube_mend", [Size(wired), Size(n), Bytes(table), Bytes(report), Figure(count)]) => {
             let Some(wiring) = wiring(*wired) else {
-                return Some(ByNumbers(by_numbers!(vcube_mend(
-                    *wired,
-                    *n,
-                    [table],
-                    [report],
-                    count
-                ))));
+                by_numbers!(vcube_mend(*wired, *n, [table], [report], count));
             };
             let (before, mut own_report) = (table.clone(), report.clone());
             let given = mend(wiring, *n, table, report);
             if let Some(mut plant) = plant_with(wiring, *n, &before, given.err()) {
-                let changed = plant
-                    .mend(&mut own_report)
-                    .map(|changed| changed.collect::<Vec<_>>());
+                let changed =
+                    plant.mend(&mut own_report).map(|changed| changed.collect::<Vec<_>>());
                 let expected = given.map(|count| changes(*n, report, count).collect::<Vec<_>>());
                 assert_eq!((changed, plant.table()), (expected, &table[..]));
                 assert_eq!(own_report, *report);
@@ -799,20 +596,8 @@ fn make(function: &str, lent: &mut [Argument]) -> Option<Made> {
             *count = given.unwrap_or(0);
             number(given)
         }
-        (
-            "vcube_save",
-            [
-                Size(n),
-                Bytes(table),
-                Number(rounds),
-                Number(tests),
-                Bytes(saved),
-            ],
-        ) => {
-            let tally = Tally {
-                rounds: *rounds,
-                tests: *tests,
-            };
+        ("vcube_save", [Size(n), Bytes(table), Number(rounds), Number(tests), Bytes(saved)]) => {
+            let tally = Tally { rounds: *rounds, tests: *tests };
             let mut own_saved = saved.clone();
             let given = save(*n, table, tally, saved);
             if let Some(mut plant) = plant_with(Wiring::Cube, *n, table, given.err()) {
@@ -825,21 +610,13 @@ fn make(function: &str, lent: &mut [Argument]) -> Option<Made> {
         }
         (
             "vcube_load",
-            [
-                Bytes(saved),
-                Bytes(table),
-                Figure(n),
-                Counter(rounds),
-                Counter(tests),
-            ],
+            [Bytes(saved), Bytes(table), Figure(n), Counter(rounds), Counter(tests)],
         ) => {
             let given = load(saved, table);
             let plant = Plant::load(Wiring::Cube, saved);
             if given != Err(Refusal::TableLength) {
-                let loaded = plant.as_ref().map(|plant| Loaded {
-                    n: plant.size(),
-                    tally: plant.tally,
-                });
+                let loaded =
+                    plant.as_ref().map(|plant| Loaded { n: plant.size(), tally: plant.tally });
                 assert_eq!(loaded.map_err(|refusal| *refusal), given);
                 assert!(plant.is_ok_and(|plant| plant.table() == &table[..]) || given.is_err());
             }
@@ -878,50 +655,29 @@ fn make(function: &str, lent: &mut [Argument]) -> Option<Made> {
         }
         ("vcube_refusal_words", [Size(refusal), Bytes(words)]) => {
             if words.len() != WORDS_LENGTH {
-                return Some(ByNumbers(by_numbers!(vcube_refusal_words(
-                    *refusal,
-                    [words]
-                ))));
+                by_numbers!(vcube_refusal_words(*refusal, [words]));
             }
             put_words(words, refusal_words(*refusal).as_str())
         }
         ("vcube_status_words", [Size(status), Bytes(words)]) => {
             if words.len() != WORDS_LENGTH {
-                return Some(ByNumbers(by_numbers!(vcube_status_words(*status, [words]))));
+                by_numbers!(vcube_status_words(*status, [words]));
             }
             put_words(words, status_words(*status).as_str())
         }
         ("vcube_outcome_words", [Size(outcome), Bytes(words)]) => {
             if words.len() != WORDS_LENGTH {
-                return Some(ByNumbers(by_numbers!(vcube_outcome_words(
-                    *outcome,
-                    [words]
-                ))));
+                by_numbers!(vcube_outcome_words(*outcome, [words]));
             }
             put_words(words, outcome_words(*outcome).as_str())
         }
         (
             "vcube_read_input",
-            [
-                Bytes(input),
-                Bytes(schedule),
-                Bytes(words),
-                Figure(n),
-                Figure(entries),
-                Figure(line),
-            ],
+            [Bytes(input), Bytes(schedule), Bytes(words), Figure(n), Figure(entries), Figure(line)],
         ) => {
             let (Ok(typed), WORDS_LENGTH) = (schedule.as_mut_slice().try_into(), words.len())
             else {
-                let number = by_numbers!(vcube_read_input(
-                    [input],
-                    [schedule],
-                    [words],
-                    n,
-                    entries,
-                    line
-                ));
-                return Some(ByNumbers(number));
+                by_numbers!(vcube_read_input([input], [schedule], [words], n, entries, line));
             };
             let given = read_input(input, typed);
             let (read, unread, said) = match &given {
@@ -933,12 +689,7 @@ fn make(function: &str, lent: &mut [Argument]) -> Option<Made> {
         }
         ("vcube_board_fresh", [Size(wired), Size(n), Size(own), Bytes(line)]) => {
             let (Some(wiring), true) = (wiring(*wired), line.len() == line_length(*n)) else {
-                return Some(ByNumbers(by_numbers!(vcube_board_fresh(
-                    *wired,
-                    *n,
-                    *own,
-                    [line]
-                ))));
+                by_numbers!(vcube_board_fresh(*wired, *n, *own, [line]));
             };
             let given = Board::new(wiring, *n, Station(*own));
             if let Ok(board) = &given {
@@ -948,13 +699,7 @@ fn make(function: &str, lent: &mut [Argument]) -> Option<Made> {
         }
         ("vcube_board_next", [Size(wired), Size(n), Size(own), Bytes(line), Figure(tested)]) => {
             let Some(given) = on_line(*wired, *n, *own, line, |board| board.next()) else {
-                return Some(ByNumbers(by_numbers!(vcube_board_next(
-                    *wired,
-                    *n,
-                    *own,
-                    [line],
-                    tested
-                ))));
+                by_numbers!(vcube_board_next(*wired, *n, *own, [line], tested));
             };
             *tested = given.map_or(0, station_number);
             number(given)
@@ -962,13 +707,7 @@ fn make(function: &str, lent: &mut [Argument]) -> Option<Made> {
         ("vcube_board_row", [Size(wired), Size(n), Size(own), Bytes(line), Bytes(packed)]) => {
             let given = on_line(*wired, *n, *own, line, |board| board.row());
             let (Some(given), true) = (given, packed.len() == packed_length(*n)) else {
-                return Some(ByNumbers(by_numbers!(vcube_board_row(
-                    *wired,
-                    *n,
-                    *own,
-                    [line],
-                    [packed]
-                ))));
+                by_numbers!(vcube_board_row(*wired, *n, *own, [line], [packed]));
             };
             if let Ok(row) = given {
                 packed.copy_from_slice(&row);
@@ -977,82 +716,38 @@ fn make(function: &str, lent: &mut [Argument]) -> Option<Made> {
         }
         (
             "vcube_board_replied",
-            [
-                Size(wired),
-                Size(n),
-                Size(own),
-                Bytes(line),
-                Bytes(packed),
-                Figure(outcome),
-            ],
+            [Size(wired), Size(n), Size(own), Bytes(line), Bytes(packed), Figure(outcome)],
         ) => {
             let given = on_line(*wired, *n, *own, line, |board| board.replied(packed));
             let Some(given) = given else {
-                let number = by_numbers!(vcube_board_replied(
-                    *wired,
-                    *n,
-                    *own,
-                    [line],
-                    [packed],
-                    outcome
-                ));
-                return Some(ByNumbers(number));
+                by_numbers!(vcube_board_replied(*wired, *n, *own, [line], [packed], outcome));
             };
             put_outcome(outcome, given)
         }
         (
             "vcube_board_not_replied",
-            [
-                Size(wired),
-                Size(n),
-                Size(own),
-                Bytes(line),
-                Figure(outcome),
-            ],
+            [Size(wired), Size(n), Size(own), Bytes(line), Figure(outcome)],
         ) => {
             let given = on_line(*wired, *n, *own, line, |board| board.not_replied());
             let Some(given) = given else {
-                let number =
-                    by_numbers!(vcube_board_not_replied(*wired, *n, *own, [line], outcome));
-                return Some(ByNumbers(number));
+                by_numbers!(vcube_board_not_replied(*wired, *n, *own, [line], outcome));
             };
             put_outcome(outcome, given)
         }
         ("vcube_board_told", [Size(wired), Size(n), Size(own), Bytes(line), Size(by)]) => {
             let told = |board: &mut Board| board.told(Station(*by));
             let Some(given) = on_line(*wired, *n, *own, line, told) else {
-                return Some(ByNumbers(by_numbers!(vcube_board_told(
-                    *wired,
-                    *n,
-                    *own,
-                    [line],
-                    *by
-                ))));
+                by_numbers!(vcube_board_told(*wired, *n, *own, [line], *by));
             };
             number(given)
         }
         (
             "vcube_board_exchanged",
-            [
-                Size(wired),
-                Size(n),
-                Size(own),
-                Bytes(line),
-                Size(from),
-                Bytes(packed),
-            ],
+            [Size(wired), Size(n), Size(own), Bytes(line), Size(from), Bytes(packed)],
         ) => {
             let exchanged = |board: &mut Board| board.exchanged(Station(*from), packed);
             let Some(given) = on_line(*wired, *n, *own, line, exchanged) else {
-                let number = by_numbers!(vcube_board_exchanged(
-                    *wired,
-                    *n,
-                    *own,
-                    [line],
-                    *from,
-                    [packed]
-                ));
-                return Some(ByNumbers(number));
+                by_numbers!(vcube_board_exchanged(*wired, *n, *own, [line], *from, [packed]));
             };
             number(given)
         }
@@ -1062,12 +757,7 @@ fn make(function: &str, lent: &mut [Argument]) -> Option<Made> {
                 Ok(())
             };
             let Some(given) = on_line(*wired, *n, *own, line, close) else {
-                return Some(ByNumbers(by_numbers!(vcube_board_round_closed(
-                    *wired,
-                    *n,
-                    *own,
-                    [line]
-                ))));
+                by_numbers!(vcube_board_round_closed(*wired, *n, *own, [line]));
             };
             number(given)
         }
@@ -1089,13 +779,14 @@ enum Fault {
 use Fault::{Differs, Unreadable};
 
 /// Makes all calls of a record; says how many.
-fn replay(mut record: impl BufRead) -> Result<String, Fault> {
+fn replay(record: impl Read) -> Result<String, Fault> {
+    let mut record = Reader(record);
     let (mut calls, mut by_numbers, mut functions) = (0, 0, BTreeSet::new());
     let unreadable = |error: io::Error| Unreadable(error.to_string());
-    while let Some(call) = next_call(&mut record).map_err(unreadable)? {
+    while let Some((call, recorded)) = record.next_call().map_err(unreadable)? {
         calls += 1;
-        let function = &call.function;
-        let mut lent = call.before;
+        let function = call.function.name;
+        let mut lent = arguments(call.function, &call.arguments);
         CALL.store(calls, Ordering::Relaxed);
         let made = make(function, &mut lent);
         let differs = |what| Err(Differs(format!("call {calls}, {function}: {what}")));
@@ -1105,40 +796,30 @@ fn replay(mut record: impl BufRead) -> Result<String, Fault> {
                 by_numbers += 1;
                 number
             }
-            None => {
-                return Err(Unreadable(format!(
-                    "the header has no such call of {function}"
-                )));
-            }
+            None => return Err(Unreadable(format!("{function} is a call that is not made here"))),
         };
-        if number != call.number {
-            return differs(format!("number {number}, and not {}", call.number));
+        if number != recorded.number {
+            return differs(format!("number {number}, and not {}", recorded.number));
         }
-        if let Some(place) = (0..lent.len()).find(|place| lent[*place] != call.after[*place]) {
+        let after = arguments(call.function, &recorded.arguments);
+        if let Some(place) = (0..lent.len()).find(|place| lent[*place] != after[*place]) {
             return differs(format!("argument {} is otherwise than recorded", place + 1));
         }
-        functions.insert(call.function);
+        functions.insert(function);
     }
     if calls == 0 {
         return Err(Unreadable("it has no call".into()));
     }
     let functions = functions.len();
-    Ok(format!(
-        "{calls} calls of {functions} functions agree, {by_numbers} of them not by types"
-    ))
+    Ok(format!("{calls} calls of {functions} functions agree, {by_numbers} of them not by types"))
 }
 
 fn main() -> ExitCode {
     panic::set_hook(Box::new(|panicked| {
-        eprintln!(
-            "replay-typed: call {}: {panicked}",
-            CALL.load(Ordering::Relaxed)
-        );
+        eprintln!("replay-typed: call {}: {panicked}", CALL.load(Ordering::Relaxed));
     }));
     let said = match env::args().nth(1).as_deref() {
-        None => Err(Unreadable(
-            "none is named (usage: replay-typed FILE)".into(),
-        )),
+        None => Err(Unreadable("none is named (usage: replay-typed FILE)".into())),
         Some("-") => replay(io::stdin().lock()),
         Some(path) => match File::open(path) {
             Ok(file) => replay(BufReader::new(file)),

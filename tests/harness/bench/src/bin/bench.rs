@@ -40,23 +40,7 @@ type Times = Result<[f64; 2], String>;
 type Done = Result<(), String>;
 
 fn main() -> ExitCode {
-    let words: Vec<String> = std::env::args().skip(1).collect();
-    let words: Vec<&str> = words.iter().map(String::as_str).collect();
-    let repetitions = match words[..] {
-        [] => REPETITIONS,
-        ["--quick"] => QUICK_REPETITIONS,
-        _ => {
-            eprintln!("usage: bench [--quick]");
-            return ExitCode::from(2);
-        }
-    };
-    match print_tables(repetitions) {
-        Ok(()) => ExitCode::SUCCESS,
-        Err(error) => {
-            eprintln!("bench: {error}");
-            ExitCode::FAILURE
-        }
-    }
+    bench::run("bench", |quick| print_tables(if quick { QUICK_REPETITIONS } else { REPETITIONS }))
 }
 
 fn print_tables(repetitions: usize) -> Done {
@@ -104,10 +88,7 @@ fn print_head(title: &str, wiring: Wiring, text: &str, columns: &str) {
 /// A row: the cells before the speeds, and how many are made in the times.
 fn print_row(cells: &str, many: f64, times: [f64; 2]) {
     let [library, plain] = times.map(|seconds| many / seconds);
-    println!(
-        "| {cells} | {library:.0} | {plain:.0} | {:.2} |",
-        library / plain
-    );
+    println!("| {cells} | {library:.0} | {plain:.0} | {:.2} |", library / plain);
 }
 
 fn thousands(many: usize) -> f64 {
@@ -116,9 +97,7 @@ fn thousands(many: usize) -> f64 {
 
 /// For each size the dead that its rows have: none, a quarter, a half.
 fn with_dead(sizes: &[usize]) -> impl Iterator<Item = (usize, usize)> + '_ {
-    sizes
-        .iter()
-        .flat_map(|n| [(*n, 0), (*n, n / 4), (*n, n / 2)])
+    sizes.iter().flat_map(|n| [(*n, 0), (*n, n / 4), (*n, n / 2)])
 }
 
 fn print_long_runs(wiring: Wiring, sizes: &[usize], repetitions: usize) -> Done {
@@ -161,11 +140,7 @@ fn compare_exits(wiring: Wiring, sizes: &[usize]) -> Done {
 /// Of plants and schedules, of which all entries must be taken.
 fn time_runs(works: &[(Plant, Vec<u8>)], repetitions: usize) -> Times {
     let longest = works.iter().map(|(_, schedule)| 2 * schedule.len()).max();
-    let batch = Batch::new(
-        works,
-        |(plant, _)| plant.table().to_vec(),
-        longest.unwrap_or(0),
-    );
+    let batch = Batch::new(works, |(plant, _)| plant.table().to_vec(), longest.unwrap_or(0));
     let taken = "all entries are taken";
     batch.best_times(
         repetitions,
@@ -279,10 +254,8 @@ fn print_figures(repetitions: usize) -> Done {
 fn plants(n: usize) -> Vec<(Plant, Vec<u8>)> {
     let mut random = Random::new(SEED);
     let mut plant = |_| {
-        let (plant, mut file) = (
-            work::later(Wiring::Cube, n, &mut random),
-            vec![0; saved_length(n)],
-        );
+        let (plant, mut file) =
+            (work::later(Wiring::Cube, n, &mut random), vec![0; saved_length(n)]);
         plant.save(&mut file).expect("a good table");
         (plant, file)
     };

@@ -26,15 +26,9 @@ const SEED: u64 = 1;
 /// The powers of two, and three sizes between them.
 const SIZES: [usize; 9] = [2, 4, 8, 11, 16, 19, 32, 48, 64];
 
-/// The orders of turns, the first one for the main table.
-const ORDERS: [Order; 6] = [
-    Order::Random,
-    Order::Passes,
-    Order::Rising,
-    Order::Falling,
-    Order::Delaying,
-    Order::Driven,
-];
+/// The orders of turns, the first one for a table of its own.
+const ORDERS: [Order; 6] =
+    [Order::Random, Order::Passes, Order::Rising, Order::Falling, Order::Delaying, Order::Driven];
 
 /// The sizes at which grants are counted, and the greatest at which all crashes of
 /// a round are tried.
@@ -67,10 +61,7 @@ impl Summary {
         let figures = vcube::figures(&results).expect("a number of results that is taken");
         results.sort_unstable();
         let place = (99 * results.len()).div_ceil(100) - 1;
-        Summary {
-            figures,
-            percentile: results[place],
-        }
+        Summary { figures, percentile: results[place] }
     }
 
     /// Mean and greatest, as a cell.
@@ -105,7 +96,6 @@ struct Grants {
 /// A slowest plant and the rounds that it takes.
 struct Slowest {
     n: usize,
-    dead: usize,
     rounds: u32,
 }
 
@@ -116,11 +106,8 @@ fn run_slowest(wiring: Wiring) -> Result<Vec<Slowest>, String> {
         Wiring::Ring => slowest::ring_plants().collect(),
     };
     let run = |plant: &slowest::Plant| {
-        rounds_of_slowest(wiring, plant).map(|rounds| Slowest {
-            n: plant.n,
-            dead: plant.dead,
-            rounds,
-        })
+        let n = plant.n;
+        rounds_of_slowest(wiring, plant).map(|rounds| Slowest { n, rounds })
     };
     plants.iter().map(run).collect()
 }
@@ -132,22 +119,7 @@ fn rounds_of(slowest: &[Slowest], n: usize) -> Option<u32> {
 }
 
 fn main() -> ExitCode {
-    let words: Vec<String> = std::env::args().skip(1).collect();
-    let quick = match words.iter().map(String::as_str).collect::<Vec<_>>()[..] {
-        [] => false,
-        ["--quick"] => true,
-        _ => {
-            eprintln!("usage: latency [--quick]");
-            return ExitCode::from(2);
-        }
-    };
-    match work(quick) {
-        Ok(()) => ExitCode::SUCCESS,
-        Err(error) => {
-            eprintln!("latency: {error}");
-            ExitCode::FAILURE
-        }
-    }
+    bench::run("latency", work)
 }
 
 fn work(quick: bool) -> Result<(), String> {
@@ -157,7 +129,7 @@ fn work(quick: bool) -> Result<(), String> {
     let one_dead = try_one_dead(quick)?;
     let failed = |error| format!("{PAGE}: {error}");
     let page = fs::read_to_string(PAGE).map_err(failed)?;
-    let page = with_rows(&page, rows(&results, &slowest, &grants, &one_dead))?;
+    let page = with_rows(&page, rows(&results, &grants, &one_dead))?;
     print!("{page}");
     if quick {
         return Ok(());
@@ -167,7 +139,7 @@ fn work(quick: bool) -> Result<(), String> {
 }
 
 /// The page with these rows in its tables, each behind a head of two lines.
-fn with_rows(page: &str, rows: [String; 6]) -> Result<String, String> {
+fn with_rows(page: &str, rows: [String; 4]) -> Result<String, String> {
     let (mut text, mut rows, mut row) = (String::new(), rows.into_iter(), 0);
     for line in page.lines() {
         row = if line.starts_with('|') { row + 1 } else { 0 };
@@ -191,8 +163,7 @@ fn at_once<T: Send, R: Send>(items: Vec<T>, make: impl Fn(T) -> R + Sync) -> Vec
         let start = |item| scope.spawn(move || make(item));
         let threads: Vec<_> = items.into_iter().map(start).collect();
         let made = threads.into_iter().map(|thread| thread.join());
-        made.map(|made| made.expect("no plant stops the program"))
-            .collect()
+        made.map(|made| made.expect("no plant stops the program")).collect()
     })
 }
 
@@ -235,14 +206,8 @@ fn try_one_dead(quick: bool) -> Result<Vec<Option<[OneDead; 2]>>, String> {
 
 fn try_size(n: usize, quick: bool) -> Results {
     let trials = if quick { trials(n) / 20 } else { trials(n) };
-    let orders = at_once(ORDERS.to_vec(), |order| {
-        try_order(Wiring::Cube, n, order, trials)
-    });
-    Results {
-        n,
-        by_order: orders,
-        on_ring: try_order(Wiring::Ring, n, ORDERS[0], trials),
-    }
+    let orders = at_once(ORDERS.to_vec(), |order| try_order(Wiring::Cube, n, order, trials));
+    Results { n, by_order: orders, on_ring: try_order(Wiring::Ring, n, ORDERS[0], trials) }
 }
 
 /// The same dead boards for each order and wiring, as far as its trials go.
@@ -267,12 +232,7 @@ fn draw_pictures(
     grants: &[Grants],
 ) -> Result<(), String> {
     let of_size = |row: &Results| {
-        let Figures {
-            least,
-            greatest,
-            mean,
-            ..
-        } = row.by_order[0].figures;
+        let Figures { least, greatest, mean, .. } = row.by_order[0].figures;
         let (n, mean, worst_on_ring) = (row.n, mean.value(), worst_case(Wiring::Ring, row.n));
         let [cube, ring] = [0, 1].map(|wiring| or_none(rounds_of(&slowest[wiring], n), "-"));
         let (d, worst) = (dimension(n), worst_case(Wiring::Cube, n));
@@ -285,10 +245,7 @@ fn draw_pictures(
     let both = |taken: Taken| format!("{} {}", taken.grants, taken.bound);
     let of_plants = |row: &Grants| {
         let searched = row.searched.as_ref().map(|all| both(grants::nearest(all)));
-        let (searched, random) = (
-            searched.unwrap_or("- -".into()),
-            grants::nearest(&row.random),
-        );
+        let (searched, random) = (searched.unwrap_or("- -".into()), grants::nearest(&row.random));
         let (wiring, n) = (row.wiring, row.n);
         format!("\"{wiring} {n}\" {searched} {}\n", both(random))
     };
@@ -305,101 +262,42 @@ fn or_none(number: Option<u32>, none: &str) -> String {
 /// Draws these lines by a script that has them under this name.
 fn draw(path: &str, name: &str, lines: String, script: &str) -> Result<(), String> {
     let drawn = || {
-        let mut gnuplot = Command::new("gnuplot")
-            .stdin(Stdio::piped())
-            .stdout(File::create(path)?)
-            .spawn()?;
+        let mut gnuplot =
+            Command::new("gnuplot").stdin(Stdio::piped()).stdout(File::create(path)?).spawn()?;
         let text = format!("{name} << END\n{lines}END\n{script}");
-        gnuplot
-            .stdin
-            .take()
-            .expect("a pipe")
-            .write_all(text.as_bytes())?;
+        gnuplot.stdin.take().expect("a pipe").write_all(text.as_bytes())?;
         gnuplot.wait()
     };
     match drawn() {
         Ok(status) if status.success() => Ok(()),
         Ok(status) => Err(format!("{path}: gnuplot ended with {status}")),
-        Err(error) => Err(format!(
-            "{path}, by gnuplot (Debian's package gnuplot-nox): {error}"
-        )),
+        Err(error) => Err(format!("{path}: {error}")),
     }
 }
 
 /// The rows of each table.
-fn rows(
-    results: &[Results],
-    slowest: &[Vec<Slowest>; 2],
-    grants: &[Grants],
-    one_dead: &[Option<[OneDead; 2]>],
-) -> [String; 6] {
+fn rows(results: &[Results], grants: &[Grants], one_dead: &[Option<[OneDead; 2]>]) -> [String; 4] {
     [
         results.iter().map(row_of_size).collect(),
-        slowest_rows(&slowest[0]),
         results.iter().map(row_of_orders).collect(),
-        results
-            .iter()
-            .map(|row| row_of_wirings(row, slowest))
-            .collect(),
         grants.iter().map(row_of_grants).collect(),
         rows_of_one_dead(one_dead),
     ]
 }
 
 fn row_of_size(row: &Results) -> String {
-    let (n, d, worst) = (row.n, dimension(row.n), worst_case(Wiring::Cube, row.n));
-    let Summary {
-        figures,
-        percentile,
-    } = &row.by_order[0];
-    let Figures {
-        count,
-        least,
-        greatest,
-        ..
-    } = *figures;
+    let (n, worst) = (row.n, worst_case(Wiring::Cube, row.n));
+    let Summary { figures, percentile } = &row.by_order[0];
     let (mean, variance) = (decimal(figures.mean), decimal(figures.variance));
-    format!("| {n} | {d} | {count} | {least} | {mean} | {variance} | {percentile} | {greatest} | {worst} |\n")
+    let greatest = figures.greatest;
+    format!("| {n} | {mean} | {variance} | {percentile} | {greatest} | {worst} |\n")
 }
 
-/// A row for neighbouring sizes with the same d and the same rounds.
-fn slowest_rows(slowest: &[Slowest]) -> String {
-    let key = |plant: &Slowest| (dimension(plant.n), plant.rounds);
-    let row = |plants: &[Slowest]| {
-        let sizes = range(plants.iter().map(|plant| plant.n));
-        let live = range(plants.iter().map(|plant| plant.n - plant.dead));
-        let ((d, rounds), worst) = (key(&plants[0]), worst_case(Wiring::Cube, plants[0].n));
-        format!("| {sizes} | {live} | {rounds} | {d} | {worst} |\n")
-    };
-    let alike = slowest.chunk_by(|one, next| key(one) == key(next));
-    alike.map(row).collect()
-}
-
-/// The least and the greatest of a row's numbers.
-fn range(numbers: impl Iterator<Item = usize>) -> String {
-    let wider = |(least, greatest): (usize, usize), k| (least.min(k), greatest.max(k));
-    match numbers.fold((usize::MAX, 0), wider) {
-        (least, greatest) if least == greatest => least.to_string(),
-        (least, greatest) => format!("{least} to {greatest}"),
-    }
-}
-
+/// The orders behind the first one, then the ring.
 fn row_of_orders(row: &Results) -> String {
-    let cells = row.by_order.iter().map(Summary::mean_and_greatest);
-    let cells = cells.collect::<Vec<_>>().join(" | ");
-    format!("| {} | {cells} |\n", row.n)
-}
-
-fn row_of_wirings(row: &Results, [on_cube, on_ring]: &[Vec<Slowest>; 2]) -> String {
-    let n = row.n;
-    let cells = |summary: &Summary, slowest, wiring| {
-        let mean = summary.mean_and_greatest();
-        let slowest = or_none(rounds_of(slowest, n), "–");
-        format!("{mean} | {slowest} | {}", worst_case(wiring, n))
-    };
-    let cube = cells(&row.by_order[0], on_cube, Wiring::Cube);
-    let ring = cells(&row.on_ring, on_ring, Wiring::Ring);
-    format!("| {n} | {cube} | {ring} |\n")
+    let others = row.by_order[1..].iter().chain([&row.on_ring]);
+    let cells: Vec<String> = others.map(Summary::mean_and_greatest).collect();
+    format!("| {} | {} |\n", row.n, cells.join(" | "))
 }
 
 fn row_of_grants(row: &Grants) -> String {
@@ -408,22 +306,19 @@ fn row_of_grants(row: &Grants) -> String {
         format!("{} | {}", all.len(), grants::greatest(all).grants)
     });
     let proved = grants::bound_of_first_crash(wiring, n);
-    let (trials, greatest) = (row.random.len(), grants::greatest(&row.random).grants);
+    let greatest = grants::greatest(&row.random).grants;
     let Taken { grants, bound } = grants::nearest(&row.random);
-    format!("| {wiring} | {n} | {searched} | {proved} | {trials} | {greatest} | {grants} of {bound} |\n")
+    format!("| {wiring} | {n} | {searched} | {proved} | {greatest} | {grants} of {bound} |\n")
 }
 
-/// The sizes by columns, each with its figures.
+/// The sizes by columns, each with its figures on the cube.
 fn rows_of_one_dead(one_dead: &[Option<[OneDead; 2]>]) -> String {
-    let figures = |most: &OneDead| format!("{} | {}", most.grants, most.rounds);
     let cells = |(n, both): (usize, &Option<[OneDead; 2]>)| match both {
-        Some([cube, ring]) => format!("| {n} | {} | {} ", figures(cube), figures(ring)),
-        None => format!("| {n} | – | – | – | – "),
+        Some([cube, _]) => format!("| {n} | {} | {} ", cube.grants, cube.rounds),
+        None => format!("| {n} | – | – "),
     };
     let cells: Vec<String> = groups::SIZES.zip(one_dead).map(cells).collect();
     let height = cells.len().div_ceil(COLUMNS);
     let row = |k: usize| cells[k..].iter().step_by(height).map(String::as_str);
-    (0..height)
-        .map(|k| row(k).collect::<String>() + "|\n")
-        .collect()
+    (0..height).map(|k| row(k).collect::<String>() + "|\n").collect()
 }

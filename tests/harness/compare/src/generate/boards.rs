@@ -1,5 +1,6 @@
 //! Calls of a board. Its line is one of a table, and what it hears is mostly the row of another line of that table.
 
+use shared::call::{size, Call};
 use shared::groups::SIZES;
 use shared::random::Random;
 use shared::table::{line_length, live_stations, unfinished_stations, HEAD, STATUS};
@@ -7,7 +8,6 @@ use shared::wiring::Wiring;
 use simulator::{board_next, Given};
 
 use super::{lines, numbers, tables, Size};
-use crate::call::{size, Call};
 
 /// Bits of a byte.
 const BITS: usize = 8;
@@ -17,11 +17,7 @@ pub fn call(wiring: Wiring, n: Size, random: &mut Random) -> Call {
     let own = board_of(n, &table, random);
     let line = line_of(own, n, &table, random);
     let number = wiring.number();
-    let given = Given {
-        wiring: number,
-        n,
-        own: own as u8,
-    };
+    let given = Given { wiring: number, n, own: own as u8 };
     // Any, where it is none.
     let tested = usize::from(board_next(given, &line).1);
     let other = (own + random.between(1, n - 1)) % n;
@@ -39,11 +35,7 @@ pub fn call(wiring: Wiring, n: Size, random: &mut Random) -> Call {
             let given = [wiring, asked, own_given, line, reply];
             Call::new("board_replied", given, random)
         }
-        11 | 12 => Call::new(
-            "board_not_replied",
-            [wiring, asked, own_given, line],
-            random,
-        ),
+        11 | 12 => Call::new("board_not_replied", [wiring, asked, own_given, line], random),
         13 | 14 => {
             let by = sender(own, other, n, random);
             Call::new("board_told", [wiring, asked, own_given, line, by], random)
@@ -54,11 +46,7 @@ pub fn call(wiring: Wiring, n: Size, random: &mut Random) -> Call {
             let given = [wiring, asked, own_given, line, from, row];
             Call::new("board_exchanged", given, random)
         }
-        _ => Call::new(
-            "board_round_closed",
-            [wiring, asked, own_given, line],
-            random,
-        ),
+        _ => Call::new("board_round_closed", [wiring, asked, own_given, line], random),
     }
 }
 
@@ -197,7 +185,7 @@ mod tests {
 
     use super::*;
     use crate::answer::answer;
-    use crate::call::number;
+    use shared::call::number;
 
     /// The refusals of each call, as docs/RULES.md lists them, and 0.
     const NUMBERS: [(&str, &[u8]); 8] = [
@@ -234,10 +222,7 @@ mod tests {
             let replied = [(0, 0), (0, 1), (0, 5), (2, 2), (3, 5)];
             assert_eq!(turns[&("vcube_board_replied", wiring)], replied.into());
             let not_replied = [(0, 0), (0, 3), (3, 3)];
-            assert_eq!(
-                turns[&("vcube_board_not_replied", wiring)],
-                not_replied.into()
-            );
+            assert_eq!(turns[&("vcube_board_not_replied", wiring)], not_replied.into());
         }
     }
 }

@@ -73,15 +73,9 @@ struct Edition {
     is_second: bool,
 }
 
-const SECOND: Edition = Edition {
-    head: HEAD,
-    is_second: true,
-};
+const SECOND: Edition = Edition { head: HEAD, is_second: true };
 
-const FIRST: Edition = Edition {
-    head: FORMER_HEAD,
-    is_second: false,
-};
+const FIRST: Edition = Edition { head: FORMER_HEAD, is_second: false };
 
 /// A file for a load, and the size of the plant that it was made of.
 pub fn saved(size: Size, random: &mut Random) -> (Size, Vec<u8>) {
@@ -189,10 +183,7 @@ pub fn many_fields(n: usize, random: &mut Random) -> Vec<u8> {
 }
 
 fn opening() -> Field {
-    Field {
-        tag: OPENING,
-        contents: vec![EDITION],
-    }
+    Field { tag: OPENING, contents: vec![EDITION] }
 }
 
 /// What the writer writes for two boards, cut to any length.
@@ -211,10 +202,7 @@ impl Edition {
         let figures = [rounds.to_be_bytes(), tests.to_be_bytes()].concat();
         let mut fields = vec![opening(), field(SIZE, vec![n as u8]), field(TALLY, figures)];
         for (own, line) in table.chunks_exact(line_length(n)).enumerate() {
-            fields.push(field(
-                LINE,
-                [&[own as u8], &line[..self.head], &line[HEAD..]].concat(),
-            ));
+            fields.push(field(LINE, [&[own as u8], &line[..self.head], &line[HEAD..]].concat()));
         }
         if !self.is_second {
             fields.remove(0);
@@ -358,9 +346,7 @@ fn put_between(fields: &mut Vec<Field>, random: &mut Random) {
 
 /// Makes a field wrong: the opening, the size, the tally, or a line, often that of the first or of the last station.
 fn spoil(fields: &mut Vec<Field>, size: Size, edition: &Edition, random: &mut Random) {
-    let tag = random.pick(&[
-        OPENING, OPENING, SIZE, SIZE, TALLY, TALLY, LINE, LINE, LINE, LINE,
-    ]);
+    let tag = random.pick(&[OPENING, OPENING, SIZE, SIZE, TALLY, TALLY, LINE, LINE, LINE, LINE]);
     let any = random.below(size);
     let station = random.pick(&[0, size - 1, any]);
     let of_tag =
@@ -423,23 +409,8 @@ fn double(
 /// Another first byte: that of an opening, a size or a station, mostly a wrong one.
 fn set_first(contents: &mut [u8], size: Size, random: &mut Random) {
     if let Some(first) = contents.first_mut() {
-        let near = [
-            size as u8,
-            size as u8 + 1,
-            first.saturating_add(1),
-            first.saturating_sub(1),
-        ];
-        let others = [
-            0,
-            1,
-            3,
-            64,
-            65,
-            128,
-            255,
-            random.byte(),
-            random.below(size) as u8,
-        ];
+        let near = [size as u8, size as u8 + 1, first.saturating_add(1), first.saturating_sub(1)];
+        let others = [0, 1, 3, 64, 65, 128, 255, random.byte(), random.below(size) as u8];
         *first = match random.once_in(2) {
             true => random.pick(&near),
             false => random.pick(&others),

@@ -1,5 +1,6 @@
 //! Long schedules, files and inputs, of which the portable C brings in one part after the other.
 
+use shared::call::{size, word, Call};
 use shared::random::Random;
 use shared::schedule::Style;
 use shared::table::{fresh, table_length};
@@ -8,7 +9,6 @@ use simulator::{SCHEDULE_LENGTH, WORDS_LENGTH};
 
 use super::files::{self, saved_length};
 use super::{schedules, texts};
-use crate::call::{size, word, Call};
 
 pub fn call(random: &mut Random) -> Call {
     match random.below(8) {

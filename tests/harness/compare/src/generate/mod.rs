@@ -19,7 +19,7 @@ use shared::groups;
 use shared::random::Random;
 use shared::wiring::Wiring;
 
-use crate::call::Call;
+use shared::call::Call;
 
 /// The size of the plant that a call is made for.
 type Size = usize;
@@ -87,12 +87,7 @@ fn schedule(random: &mut Random) -> Schedule {
     let bytes = schedules::given(wiring, n, &table, random);
     let entries = bytes.as_chunks().0.to_vec();
     let wiring = wiring.number();
-    Schedule {
-        wiring,
-        n,
-        table,
-        entries,
-    }
+    Schedule { wiring, n, table, entries }
 }
 
 fn any(random: &mut Random) -> Call {

@@ -12,20 +12,8 @@ use super::Size;
 /// The last granted number where no station was granted yet.
 const NONE_YET: usize = 255;
 
-const WRONG_SIZES: [usize; 12] = [
-    0,
-    1,
-    65,
-    66,
-    127,
-    128,
-    255,
-    256,
-    258,
-    65538,
-    usize::MAX - 1,
-    usize::MAX,
-];
+const WRONG_SIZES: [usize; 12] =
+    [0, 1, 65, 66, 127, 128, 255, 256, 258, 65538, usize::MAX - 1, usize::MAX];
 
 /// Added to a right number these show a number cut to 8, 16, 32 or 63 bits.
 const ALIASES: [usize; 5] = [1 << 8, 1 << 16, 1 << 31, 1 << 32, 1 << 63];

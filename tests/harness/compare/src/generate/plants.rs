@@ -1,12 +1,12 @@
 //! Calls on a plant: those that take a size.
 
+use shared::call::{size, word, Call};
 use shared::groups::{assignment_length, distances, group_length};
 use shared::random::Random;
 use shared::table::{line_length, live_stations, table_length, unfinished_stations, HEAD};
 use shared::wiring::Wiring;
 
 use super::{lines, mostly_cube, numbers, schedules, tables, Size};
-use crate::call::{size, word, Call};
 
 /// The bytes of a change in a report.
 const CHANGE: usize = 4;
@@ -51,11 +51,7 @@ pub fn assignment(n: Size, random: &mut Random) -> Call {
     let wrong = [0, right - 1, right + 1, n - 1, 2 * n, absent];
     let length = numbers::length_or(right, &wrong, random);
     let list = random.bytes(length);
-    Call::new(
-        "assignment",
-        [size(given), table, size(station), list],
-        random,
-    )
+    Call::new("assignment", [size(given), table, size(station), list], random)
 }
 
 /// A live station, if there is one, or any.

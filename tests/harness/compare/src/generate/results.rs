@@ -1,10 +1,10 @@
 //! Calls about results: one list or two, often with as many results as are
 //! taken at most, one less or one more; and totals.
 
+use shared::call::{members, results, Call};
 use shared::random::Random;
 
 use super::totals;
-use crate::call::{members, results, Call};
 
 /// The most results that are taken.
 pub const MOST_RESULTS: usize = 4_096;

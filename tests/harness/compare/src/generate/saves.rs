@@ -1,12 +1,12 @@
 //! Calls on files: saves, loads and conversions, and the questions before these.
 
+use shared::call::{size, word, Call};
 use shared::groups::{distances, SIZES};
 use shared::random::Random;
 use shared::table::table_length;
 
 use super::files::{former_saved_length, former_table_length, saved_length, FIELD_HEAD};
 use super::{files, mostly_cube, numbers, tables, Size};
-use crate::call::{size, word, Call};
 
 pub fn save(n: Size, random: &mut Random) -> Call {
     let (given, table) = tables::given(mostly_cube(random), n, random);
@@ -23,11 +23,7 @@ fn buffer_length(n: Size, random: &mut Random) -> usize {
     let right = saved_length(n);
     let other_forms = [table_length(n), former_saved_length(n), saved_length(n + 1)];
     // Without the heads of the lines, with the absent numbers, without the opening.
-    let other_fields = [
-        right - FIELD_HEAD * n,
-        saved_length(distances(n)),
-        right - FIELD_HEAD - 1,
-    ];
+    let other_fields = [right - FIELD_HEAD * n, saved_length(distances(n)), right - FIELD_HEAD - 1];
     let wrong = [&[right - 1, right + 1, 0][..], &other_forms, &other_fields];
     numbers::length_or(right, &wrong.concat(), random)
 }

@@ -198,11 +198,7 @@ pub fn finish_all_but_one(wiring: Wiring, table: &mut [u8], size: Size, random: 
 /// its pass at the other half, of which only the last one is live.
 pub fn lead_past_the_dead(table: &mut [u8], size: Size, random: &mut Random) {
     let half = size / 2;
-    for (own, line) in table
-        .chunks_exact_mut(line_length(size))
-        .take(size)
-        .enumerate()
-    {
+    for (own, line) in table.chunks_exact_mut(line_length(size)).take(size).enumerate() {
         if own < half || own + 1 == size {
             lines::set_status(line, own, size, LIVE, random);
         } else {
@@ -274,10 +270,6 @@ pub fn clear_doubts(table: &mut [u8], size: Size, below: usize) {
 pub fn resize(table: &mut Vec<u8>, length: usize, random: &mut Random) {
     let more = length.saturating_sub(table.len());
     table.truncate(length);
-    let tail = if random.once_in(2) {
-        vec![0; more]
-    } else {
-        random.bytes(more)
-    };
+    let tail = if random.once_in(2) { vec![0; more] } else { random.bytes(more) };
     table.extend(tail);
 }

@@ -1,10 +1,10 @@
 //! Words by any number, and inputs: readable ones and damaged ones.
 
+use shared::call::{size, Call};
 use shared::random::Random;
 use simulator::{MOST_ENTRIES, SCHEDULE_LENGTH, WORDS_LENGTH};
 
 use super::numbers;
-use crate::call::{size, Call};
 
 pub fn call(random: &mut Random) -> Call {
     match random.below(8) {

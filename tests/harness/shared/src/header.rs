@@ -110,9 +110,5 @@ fn argument(text: &'static str) -> Option<Argument> {
         "struct vcube_figures" => 7,
         _ => 1,
     };
-    Some(Argument {
-        name: name.trim_start_matches('*'),
-        form: Form::new(letter),
-        items,
-    })
+    Some(Argument { name: name.trim_start_matches('*'), form: Form::new(letter), items })
 }

@@ -1,7 +1,13 @@
 /* The early release's order of groups, for a board that does not keep the rules: it took each group by rising number. Linked in the place of two of
  * the library's calls (-Wl,--wrap=vcube_board_next,--wrap=vcube_board_not_replied), so that the board tests whom that order says, and finishes its
- * pass where that order names nobody. On the cube. */
+ * pass where that order names nobody. On the cube. All boards of the program have it, or with CHOSEN those that the program says. */
 #include "vcube.h"
+
+#ifdef CHOSEN
+int has_early_order(size_t wiring, size_t board);
+#else
+#define has_early_order(wiring, board) 1
+#endif
 
 uint8_t __real_vcube_board_next(size_t wiring, size_t n, size_t board, const uint8_t *line, size_t line_length, size_t *tested);
 uint8_t __wrap_vcube_board_next(size_t wiring, size_t n, size_t board, const uint8_t *line, size_t line_length, size_t *tested);
@@ -23,7 +29,7 @@ uint8_t __wrap_vcube_board_next(size_t wiring, size_t n, size_t board, const uin
     const uint8_t error = __real_vcube_board_next(wiring, n, board, line, line_length, tested);
     size_t half;
 
-    if (error != VCUBE_ACCEPTED)
+    if (error != VCUBE_ACCEPTED || !has_early_order(wiring, board))
         return error;
     for (half = 1; half < 64; half *= 2) {
         size_t distance;
@@ -43,7 +49,7 @@ uint8_t __wrap_vcube_board_not_replied(size_t wiring, size_t n, size_t board, ui
     size_t tested, end = 1;
     const uint8_t error = __wrap_vcube_board_next(wiring, n, board, line, line_length, &tested);
 
-    if (error != VCUBE_ACCEPTED || tested != VCUBE_NO_STATION)
+    if (error != VCUBE_ACCEPTED || tested != VCUBE_NO_STATION || !has_early_order(wiring, board))
         return __real_vcube_board_not_replied(wiring, n, board, line, line_length, outcome);
     while (end < n)
         end *= 2;

@@ -3,10 +3,12 @@
 //! A call is the name of its function in include/vcube.h with a zero byte behind it; then its arguments in the header's order, each behind a
 //! letter that says what it is; then a full stop and the number that it gives, in one byte. The letters are
 //!
-//!     n  a size_t, eight bytes             w  a uint32_t, four bytes
-//!     b  pointer to bytes and their number r  pointer to results (uint16_t) and their number
-//!     s  pointer to a size_t               i  pointer to a uint32_t
-//!     t  pointer to a struct of uint64_t
+//! ```text
+//! n  a size_t, eight bytes             w  a uint32_t, four bytes
+//! b  pointer to bytes and their number r  pointer to results (uint16_t) and their number
+//! s  pointer to a size_t               i  pointer to a uint32_t
+//! t  pointer to a struct of uint64_t
+//! ```
 //!
 //! and in capitals (B, R, T) where the pointer is to const. What stands at a pointer is the number of its bytes, in four bytes, the bytes, and
 //! then `=`, where the call leaves them as they were, or `~` and the bytes after the call. All numbers have their low byte first.
@@ -44,7 +46,7 @@ pub struct Reader<R>(pub R);
 
 impl<R: Read> Reader<R> {
     /// The next call, if there is one, and its answer.
-    pub fn next(&mut self) -> io::Result<Option<(Call, Answer)>> {
+    pub fn next_call(&mut self) -> io::Result<Option<(Call, Answer)>> {
         let mut name = Vec::new();
         match self.byte() {
             Err(error) if error.kind() == io::ErrorKind::UnexpectedEof => return Ok(None),
@@ -54,9 +56,7 @@ impl<R: Read> Reader<R> {
             name.push(self.byte()?);
         }
         name.pop();
-        let known = std::str::from_utf8(&name)
-            .ok()
-            .and_then(header::function_named);
+        let known = std::str::from_utf8(&name).ok().and_then(header::function_named);
         let function = known.ok_or_else(|| wrong("an unknown function"))?;
         let (mut before, mut after) = (Vec::new(), Vec::new());
         for argument in &function.arguments {
@@ -78,10 +78,7 @@ impl<R: Read> Reader<R> {
             return Err(wrong("more arguments than the function has"));
         }
         let number = self.byte()?;
-        let call = Call {
-            function,
-            arguments: before,
-        };
+        let call = Call { function, arguments: before };
         let arguments = after;
         Ok(Some((call, Answer { number, arguments })))
     }

@@ -1,7 +1,7 @@
 //! A call is data: its function, and for each argument bytes. Those of a number are the number, those of a pointer what stands there, items
 //! one behind the other. Numbers have their low byte first; those of `size_t` have eight bytes, the others as many as in C.
 
-use shared::random::Random;
+use crate::random::Random;
 
 use crate::header::{self, Function};
 
@@ -28,10 +28,7 @@ impl Call {
             assert!(place.form.is_place(), "arguments of {name}");
             arguments.push(random.bytes(place.items * place.form.width));
         }
-        Call {
-            function,
-            arguments,
-        }
+        Call { function, arguments }
     }
 }
 
@@ -53,16 +50,10 @@ pub fn number(bytes: &[u8]) -> u64 {
 
 /// The bytes of results.
 pub fn results(results: &[u16]) -> Vec<u8> {
-    results
-        .iter()
-        .flat_map(|result| result.to_le_bytes())
-        .collect()
+    results.iter().flat_map(|result| result.to_le_bytes()).collect()
 }
 
 /// The bytes of a struct of `uint64_t`.
 pub fn members(members: &[u64]) -> Vec<u8> {
-    members
-        .iter()
-        .flat_map(|member| member.to_le_bytes())
-        .collect()
+    members.iter().flat_map(|member| member.to_le_bytes()).collect()
 }
