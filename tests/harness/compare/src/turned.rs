@@ -5,13 +5,14 @@
 use std::fs;
 use std::path::{Path, PathBuf};
 
+use shared::call::{number, Answer, Call};
 use shared::random::Random;
+use shared::record;
 use shared::table::table_length;
 use simulator::program::saved_after_run;
 
-use crate::call::{number, Answer, Call};
+use crate::answer;
 use crate::replayer::Replayer;
-use crate::{answer, record};
 
 const BOARDS: usize = 8;
 
@@ -31,7 +32,7 @@ pub fn check(inputs: &[PathBuf], program: &Path) -> Result<String, String> {
             fs::read(input).map_err(|error| format!("compare: {}: {error}", input.display()))?;
         let ends = (1..=text.len()).filter(|end| text[end - 1] == b'\n');
         for end in ends {
-            let saved = saved_after_run(&text[..end])?;
+            let saved = saved_after_run(&text[..end]).ok_or("compare: an input is not run")?;
             replayer.feed(&record_of(&saved, &mut count)?);
         }
     }
@@ -58,9 +59,7 @@ fn record_of(saved: &[u8], count: &mut Count) -> Result<Vec<u8>, String> {
         count.files += 1;
         count.refused += usize::from(answer.number != 0);
         if answer.number == 0 && saved_again(&answer) != call.arguments[0] {
-            return Err(format!(
-                "compare: bit {bit}: what is loaded is not what the file says"
-            ));
+            return Err(format!("compare: bit {bit}: what is loaded is not what the file says"));
         }
         record::write(&call, &answer, &mut text);
     }
