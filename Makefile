@@ -132,7 +132,7 @@ heap=$$(sed -nE 's/^  instance->w2c___heap_base = ([0-9]+)ull;$$/\1/p' $(@D)/vcu
 sed -Ei "s/^(#define|static inline void) (LOAD_DATA|DEFINE_LOAD|DEFINE_STORE|memory_fill|memory_copy)\(/\1 wasm2c_\2(/
     s/^static const u8 data_segment_data_w2c_d0\[\]/static const u8 vcube_constants[$$((heap - 65536))]/
     s/data_segment_data_w2c_d0/vcube_constants/
-    s/((load|store)[0-9a-z_]*)\(&instance->w2c_memory, \(u64\)\((w2c_[a-z0-9]+)\)( \+ )?/\1(\3, 0\4/" $(@D)/vcube_module.c
+    s/((load|store)[0-9a-z_]*)\(&instance->w2c_[A-Za-z0-9]+, \(u64\)\((w2c_[a-z0-9]+)\)( \+ )?/\1(\3, 0\4/" $(@D)/vcube_module.c
 sed -Ei 's/^[a-z0-9_]+\*? Z_vcube_module/static &/' $(@D)/vcube_module.[ch]
 awk -v heap="$$heap" -f bindings/portable/constants.awk $(@D)/vcube_module.c $(@D)/vcube_module.c >$(@D)/marked.c
 mv $(@D)/marked.c $(@D)/vcube_module.c
