@@ -1,5 +1,4 @@
-// What a turn goes by, computed once for a run and handed on by value: the wiring, the size, and the end distance of both. So no turn computes the
-// end distance again.
+// What a turn goes by, on a table or on a board's own line: the wiring, the size, and the end distance of both.
 ghost use Rattle.std.specs.Prelude.{◌≡◌, ◌-◌, true};
 ghost use Rattle.lists.specs.Search.{least};
 ghost use Rattle.table.specs.Sizes.{is_size};
@@ -8,6 +7,7 @@ ghost use Rattle.station.specs.Tests.{due};
 
 use crate::outcome::Outcome;
 use crate::{DueOrAhead, due, order};
+use table::lent::Table;
 use table::wiring::Wiring;
 use table::{Distance, Station};
 
@@ -27,14 +27,26 @@ impl Wired {
     ghost use Rattle.station.specs.Outcome.{outcome_byte};
 
     // The wiring of n stations.
-    #[tactic(auto, using(table::proofs::SizeLaws::size_top, table::proofs::WiringLaws::end_top))]
     pub fn new(wiring: Wiring, n: u8) -> Wired
         requires { is_size n ≡ true }
         ensures same_wiring { result.wiring ≡ wiring }
         ensures same_size { result.n ≡ n }
     {
-        let end = wiring.end_distance(n) as u8;
+        let end = wiring.end_byte(n);
         Wired { wiring, n, end }
+    }
+
+    // That of a table.
+    pub fn of(table: &Table) -> Wired
+        ensures same_wiring { result.wiring ≡ table.now.wiring }
+        ensures same_size { result.n ≡ table.now.n }
+        ensures same_end { result.end ≡ table.now.end }
+    {
+        Wired {
+            wiring: table.wiring,
+            n: table.n,
+            end: table.end,
+        }
     }
 
     // The station at distance m from i.

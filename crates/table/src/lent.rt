@@ -180,6 +180,7 @@ impl<'a> TableMut<'a> {
     pub fn read(&self) -> Table<'_>
         ensures same_wiring { result.wiring ≡ self.now.wiring }
         ensures same_size { result.n ≡ self.now.n }
+        ensures same_end { result.end ≡ self.now.end }
         ensures same_bytes { result.bytes.now ≡ self.now.bytes.now }
     {
         Table {

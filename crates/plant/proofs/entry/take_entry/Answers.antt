@@ -17,7 +17,6 @@ bit-added false x = omega arith
 pub act-done-requires : goal.act-done-requires
 act-done-requires c =
     record {
-      same_size = c.requires.same_size;
       table_obeys = c.requires.table_obeys;
       station_below = (entry-facts _ _ _ c.requires.entry_taken).below;
     }
@@ -43,7 +42,7 @@ unfolding after
 returns-clause-state_after c =
     let e = c.act-done.ensures in
     let f = c.close_round-over.ensures in
-    let m = made-test c.args.wired.wiring c.args.table.now.n c.args.table.now.bytes.now (entry_known c.args.entry) in
+    let m = made-test c.args.table.now.wiring c.args.table.now.n c.args.table.now.bytes.now (entry_known c.args.entry) in
     rw (c.from.ensures, c.from-2.ensures, bit-added c.close_round-over.result, bit-added)
     (rw (f.is_over, f.round_closed, e.same_loan.size, e.entry_acted, c.made_test.ensures, e.outcome_number, m))
 
