@@ -27,15 +27,15 @@ pub fn wait_of(wiring: Wiring, n: usize, table: &[u8]) -> Result<Wait, Refusal>
     ensures { result ≡ wait_answer wiring n table.now }
 {
     let table = Table::checked(wiring, n, table)?;
-    Ok(wait_on(wiring, &table))
+    Ok(wait_on(&table))
 }
 
 // The bounds for a table that is not refused.
-fn wait_on(wiring: Wiring, table: &Table) -> Wait
-    ensures { result ≡ wait_on wiring table.now.n table.now.bytes.now }
+fn wait_on(table: &Table) -> Wait
+    ensures { result ≡ wait_on table.now.wiring table.now.n table.now.bytes.now }
 {
-    let rounds = worst_rounds(wiring, table.n);
-    let turns = turns_per_round(wiring, table);
+    let rounds = worst_rounds(table.wiring, table.n);
+    let turns = turns_per_round(table);
     Wait {
         rounds,
         turns_per_round: turns,
@@ -56,11 +56,11 @@ fn worst_rounds(wiring: Wiring, n: u8) -> u32
 }
 
 // How many turns a round has at most.
-fn turns_per_round(wiring: Wiring, table: &Table) -> u32
-    ensures turns { result ≡ turns_per_round wiring table.now.n table.now.bytes.now }
+fn turns_per_round(table: &Table) -> u32
+    ensures turns { result ≡ turns_per_round table.now.wiring table.now.n table.now.bytes.now }
     ensures upper_bound { result ≤ 256 * table.now.n }
 {
-    match wiring {
+    match table.wiring {
         Wiring::Cube => figures::turns_by_row(table.n, &dead_row(table)),
         Wiring::Ring => u32::from(table.n) + live_boards(table),
     }

@@ -61,11 +61,6 @@ pub and_ok : {A : Type 0} (a : Check) (b : Result A Refusal) (x : A) → (a and 
 and_ok (Ok y) b x e = (refl, e)
 and_ok (Err r) b x e = cc
 
--- a check that refuses hides the later ones
-pub and_first : (a b : Check) → (a ≡ Ok tt → ⊥) → a ≡ (a and b)
-and_first (Ok x) b h = absurd (h refl)
-and_first (Err r) b h = refl
-
 -- a later check matters only where the earlier one refuses nothing
 pub and_same : {A : Type 0} (a : Check) (b b' : Result A Refusal) → (a ≡ Ok tt → b ≡ b') → (a and b) ≡ (a and b')
 and_same (Ok x) b b' h = h refl

@@ -26,7 +26,7 @@ pub fn mend(wiring: Wiring, n: usize, table: &mut [u8], report: &mut [u8]) -> Re
     ensures mended_table { table.new ≡ table_after wiring n table.old (length report.old) }
     ensures listed_changes { report.new ≡ report_after wiring n table.old report.old }
 {
-    let lent = Table::of(n, table)?;
+    let lent = Table::of(wiring, n, table)?;
     if report.len() / 4 < lent.bytes.len() {
         return Err(Refusal::ReportTooShort);
     }
@@ -44,14 +44,22 @@ fn mend_checked(wiring: Wiring, n: u8, table: &mut [u8], report: &mut [u8]) -> u
     ensures listed_changes { let changes = mends wiring n table.old in
         report.new ≡ report_of changes (length report.old) }
 {
-    let over = lines::is_over(wiring, &Table { n, bytes: table });
-    let mut mending = Mending {
+    let end = wiring.end_byte(n);
+    let over = lines::is_over(&Table {
+        wiring,
         n,
+        end,
+        bytes: table,
+    });
+    let mut mending = Mending {
+        wiring,
+        n,
+        end,
         table,
         report,
         changes: 0,
     };
-    mending.mend_lines(wiring, over);
+    mending.mend_lines(over);
     mending.clear_rest();
     mending.changes
 }

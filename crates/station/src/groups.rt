@@ -30,7 +30,7 @@ pub fn group_list(n: usize, i: Station, s: Level, list: &mut [u8]) -> Result<(),
 }
 
 // Refusals 1, 9, 12, 13.
-#[tactic(auto, using(table::proofs::SizeLaws::size_top, crate::proofs::Refusals::range_ok, crate::proofs::Refusals::dimension_top), unfolding(crate::specs::Calls::group_check))]
+#[tactic(auto, using(crate::proofs::Refusals::group_bounds), unfolding(crate::specs::Calls::group_check))]
 fn check_group(n: usize, i: Station, s: Level, len: usize) -> Result<(), Refusal>
     ensures { result ≡ group_check n i.0 s.0 len }
 {

@@ -50,7 +50,7 @@ impl Wired {
     }
 
     // The station at distance m from i.
-    #[tactic(auto, using(table::proofs::SizeLaws::size_top, table::proofs::WiringLaws::end_top, table::proofs::WiringLaws::end_ring), unfolding(crate::specs::Wired::wired_station))]
+    #[tactic(auto, using(crate::proofs::WiredLaws::wired_bounds), unfolding(crate::specs::Wired::wired_station))]
     pub fn station_at(self, i: Station, m: Distance) -> Station
         requires station { i.0 < self.n }
         requires distance { m.0 < self.end }

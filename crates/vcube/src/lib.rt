@@ -207,7 +207,7 @@ pub extern "C" fn vcube_run(
 }
 
 // Grant: the station that is granted after the last one, 0 where it is refused.
-#[tactic(auto, using(crate::proofs::OnWiring::on_each, granter::proofs::GrantLaws::grant_answer_refusal))]
+#[tactic(auto, using(crate::proofs::OnWiring::on_each))]
 #[unsafe(no_mangle)]
 pub extern "C" fn vcube_grant(
     wiring: usize,
