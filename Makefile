@@ -122,21 +122,24 @@ target/wasm/vcube.wasm: target/staticlib/libvcube.a
 	wasm-opt --enable-memory64 $(wasm_features) --memory64-lowering -O2 \
 	    "$$copy/crates/vcube/out/vcube.wasm" -o $@
 
-# MODULE: C of a module, which vcube_portable_module.h includes. wasm2c's ways to the memory get other names, as that header has its own. The
-# constants go up to the heap: the module leaves out the zeros at their end. What the module exports only that file calls: a compiler that knows so
-# leaves out halves of numbers that are always 0.
+# MODULE: C of a module, which vcube_portable_module.h includes. wasm2c's ways to the memory get other names, as that header has its own, and are
+# handed the two parts of an address apart. The constants go up to the heap: the module leaves out the zeros at their end. What the module exports
+# only that file calls: a compiler that knows so leaves out halves of numbers that are always 0.
 define module_in_c
 $(call needs,wasm2c,wabt)
 wasm2c --no-debug-names -n vcube_module $1 -o $(@D)/vcube_module.c
 heap=$$(sed -nE 's/^  instance->w2c___heap_base = ([0-9]+)ull;$$/\1/p' $(@D)/vcube_module.c)
 sed -Ei "s/^(#define|static inline void) (LOAD_DATA|DEFINE_LOAD|DEFINE_STORE|memory_fill|memory_copy)\(/\1 wasm2c_\2(/
     s/^static const u8 data_segment_data_w2c_d0\[\]/static const u8 vcube_constants[$$((heap - 65536))]/
-    s/data_segment_data_w2c_d0/vcube_constants/" $(@D)/vcube_module.c
+    s/data_segment_data_w2c_d0/vcube_constants/
+    s/((load|store)[0-9a-z_]*)\(&instance->w2c_memory, \(u64\)\((w2c_[a-z0-9]+)\)( \+ )?/\1(\3, 0\4/" $(@D)/vcube_module.c
 sed -Ei 's/^[a-z0-9_]+\*? Z_vcube_module/static &/' $(@D)/vcube_module.[ch]
+awk -v heap="$$heap" -f bindings/portable/constants.awk $(@D)/vcube_module.c $(@D)/vcube_module.c >$(@D)/marked.c
+mv $(@D)/marked.c $(@D)/vcube_module.c
 cp $(filter %.h,$^) $(@F:%=bindings/portable/%) $(@D)/
 endef
 
-portable_parts := include/vcube.h $(wildcard bindings/portable/*.h /usr/include/wasm-rt.h)
+portable_parts := include/vcube.h $(wildcard bindings/portable/*.h bindings/portable/*.awk /usr/include/wasm-rt.h)
 target/portable/vcube_portable.c: target/wasm/vcube.wasm bindings/portable/vcube_portable.c $(portable_parts) include/vcube_plant.h
 	@echo 'building $@ ..' >&2
 	rm -rf $(@D)

@@ -56,12 +56,22 @@
 /* Where the stack that the module was linked with ends, and its constants begin. */
 #define LINKED_STACK 65536
 
+/* How many bytes stand unused at the end of the memory: see what reaches it, below. */
+#define MARGIN 8
+
 #define MOST_STATIONS ((size_t)VCUBE_PORTABLE_STATIONS)
-#define MEMORY_SIZE ((MODULE_STACK + NUMBERS_ROOM + CALL_ROOM + 7) / 8 * 8)
+#define MEMORY_SIZE ((MODULE_STACK + NUMBERS_ROOM + CALL_ROOM + 7) / 8 * 8 + MARGIN)
 
 /* The module's memory: its stack, which goes down to 0, and behind it the buffers of a call. Its constants do not stand here but among those of
  * the program, and are read there. */
 static VCUBE_PORTABLE_LOCAL uint8_t memory[MEMORY_SIZE];
+
+/* For what each access of the module goes through: a call for each would cost more, in bytes too. */
+#if defined(__GNUC__)
+#define INLINE static inline __attribute__((always_inline))
+#else
+#define INLINE static inline
+#endif
 
 /* By memcpy, of what is filled already. */
 static inline void fill(uint8_t *bytes, uint8_t value, size_t length)
@@ -92,7 +102,7 @@ static inline void move(uint8_t *to, const uint8_t *from, size_t length)
 }
 
 /* A number from the module's bytes, or to them. */
-static inline void copy_number(void *to, const void *from, size_t width)
+INLINE void copy_number(void *to, const void *from, size_t width)
 {
 #if IS_LOW_BYTE_FIRST
     memcpy(to, from, width);
@@ -139,46 +149,80 @@ void vcube_rt_free_memory(wasm_rt_memory_t *made)
     (void)made;
 }
 
-/* How the module reaches its memory, in place of wasm2c's own macros and functions of these names, to which make gives other names: its
- * addresses go up to 2^32, and are cut as a size_t is; what is outside the memory is not touched. */
+/* How the module reaches its memory, in place of wasm2c's own macros and functions of these names, to which make gives other names.
+ *
+ * An address is the sum of two numbers of 32 bits: base, which the module works out, and offset, which stands in its code. make hands them over
+ * apart, and each is compared before they are added. So the check is the same for a size_t of 32 bits and of 64, and no sum is cut: whatever is
+ * not wholly in the memory traps.
+ *
+ * Accesses within MARGIN bytes of one base have the same check, which the compiler then makes once. By it the last MARGIN bytes of the memory
+ * are outside as a base; no buffer has any of them. */
 
-static inline uint8_t *to_write(size_t at, size_t length)
+#define IS_OUTSIDE(base, offset, length)                                   \
+    ((offset) <= MARGIN - (length) ? (base) > sizeof memory - MARGIN       \
+                                   : (offset) > sizeof memory - (length) || \
+                                         (base) > sizeof memory - (length) - (offset))
+
+INLINE uint8_t *to_write(uint32_t base, uint32_t offset, size_t length)
+{
+    if (UNLIKELY(IS_OUTSIDE(base, offset, length)))
+        vcube_rt_trap(WASM_RT_TRAP_OOB);
+    return memory + base + offset;
+}
+
+/* Part of the memory, of any length. */
+static inline uint8_t *part_to_write(uint32_t at, size_t length)
 {
     if (UNLIKELY(length > sizeof memory || at > sizeof memory - length))
         vcube_rt_trap(WASM_RT_TRAP_OOB);
     return memory + at;
 }
 
+/* Constants begin at LINKED_STACK. They are read by an offset from there on, by a copy, and in functions that have the address of one as a number
+ * or are called by these: make gives loads there names that end with _anywhere. */
 #if HAS_CONSTANTS
-static const uint8_t *among_constants(size_t at, size_t length);
+static const uint8_t *among_constants(uint64_t at, size_t length);
 
-static inline const uint8_t *to_read(size_t at, size_t length)
+INLINE const uint8_t *to_read(uint32_t base, uint32_t offset, size_t length)
 {
-    if (UNLIKELY(length > sizeof memory || at > sizeof memory - length))
-        return among_constants(at, length);
-    return memory + at;
+    return offset < LINKED_STACK ? to_write(base, offset, length) : among_constants((uint64_t)base + offset, length);
+}
+
+INLINE const uint8_t *to_read_anywhere(uint32_t base, uint32_t offset, size_t length)
+{
+    const uint64_t at = (uint64_t)base + offset;
+
+    return at < LINKED_STACK ? to_write(base, offset, length) : among_constants(at, length);
+}
+
+static inline const uint8_t *part_to_read(uint32_t at, size_t length)
+{
+    return at < LINKED_STACK ? part_to_write(at, length) : among_constants(at, length);
 }
 #else
 #define to_read to_write
+#define to_read_anywhere to_write
+#define part_to_read part_to_write
 #endif
 
-#define DEFINE_LOAD(name, stored, read, given)                                   \
-    static inline given name(wasm_rt_memory_t *unused, u64 at)                   \
-    {                                                                            \
-        stored number;                                                           \
-        (void)unused;                                                            \
-        copy_number(&number, to_read((size_t)at, sizeof number), sizeof number); \
-        return (given)(read)number;                                              \
+#define DEFINE_LOAD(name, stored, read, given)                 \
+    DEFINE_LOAD_BY(to_read, name, stored, read, given)         \
+    DEFINE_LOAD_BY(to_read_anywhere, name##_anywhere, stored, read, given)
+#define DEFINE_LOAD_BY(reach, name, stored, read, given)                                \
+    INLINE given name(u32 base, u32 offset)                                             \
+    {                                                                                   \
+        stored number;                                                                  \
+        copy_number(&number, reach(base, offset, sizeof number), sizeof number);        \
+        return (given)(read)number;                                                     \
     }
-#define DEFINE_STORE(name, stored, taken)                                         \
-    static inline void name(wasm_rt_memory_t *unused, u64 at, taken value)        \
-    {                                                                             \
-        const stored number = (stored)value;                                      \
-        (void)unused;                                                             \
-        copy_number(to_write((size_t)at, sizeof number), &number, sizeof number); \
+#define DEFINE_STORE(name, stored, taken)                                               \
+    static inline void name(u32 base, u32 offset, taken value)                          \
+    {                                                                                   \
+        const stored number = (stored)value;                                            \
+        copy_number(to_write(base, offset, sizeof number), &number, sizeof number);     \
     }
-#define memory_fill(unused, at, value, length) fill(to_write(at, length), (uint8_t)(value), length)
-#define memory_copy(unused, as_well, to, from, length) move(to_write(to, length), to_read(from, length), length)
+#define memory_fill(unused, at, value, length) fill(part_to_write(at, length), (uint8_t)(value), length)
+#define memory_copy(unused, as_well, to, from, length) move(part_to_write(to, length), part_to_read(from, length), length)
 /* The constants, where there are any, are all the data: else this does not compile. */
 #define LOAD_DATA(unused, at, bytes, length) (void)sizeof(char[((at) == LINKED_STACK) == HAS_CONSTANTS ? 1 : -1])
 
@@ -201,12 +245,11 @@ static inline const uint8_t *to_read(size_t at, size_t length)
 #endif
 
 #if HAS_CONSTANTS
-static const uint8_t *among_constants(size_t at, size_t length)
+static const uint8_t *among_constants(uint64_t at, size_t length)
 {
-    at -= LINKED_STACK;
-    if (length > sizeof vcube_constants || at > sizeof vcube_constants - length)
+    if (length > sizeof vcube_constants || at < LINKED_STACK || at - LINKED_STACK > sizeof vcube_constants - length)
         vcube_rt_trap(WASM_RT_TRAP_OOB);
-    return vcube_constants + at;
+    return vcube_constants + (size_t)(at - LINKED_STACK);
 }
 #endif
 

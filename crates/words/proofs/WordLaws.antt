@@ -13,7 +13,7 @@ use lib.Arith.{bin_ind}
 use lib.Bits.{bit_and, bit_or, and_step, or_step, and_zero_l, or_zero_l, and_block, or_add_and, and_le_r}
 use lib.Dec.{eqb, leb}
 use lib.ListN.{length, get_or, take, drop, length-drop}
-use lib.Seq.{length-take-le, take_all, get_or-take, get_or-drop, drop-drop}
+use lib.Seq.{take_all, get_or-take, get_or-drop, drop-drop}
 use mir.Syntax.{w8, w64}
 use mir.Val.{Fits}
 use Rattle.std.specs.Int.{from_le_bytes}
@@ -173,17 +173,14 @@ chunk-at n (suc c) t d (suc k) p h e =
 abbrev pub Seen : List ℕ → ℕ → ℕ → Type 0
 Seen t all p = eqb (bit_and all 0xFEFE_FEFE_FEFE_FEFE) 0 ≡ every (is_bit_at t) p
 
-pub word-next : (t : List ℕ) (ws : List (List ℕ)) (a k all w : ℕ) → ((i : ℕ) → Fits w8 (get_or t i 0)) → a ≤ length t
-    → ws ≡ first_chunks 8 (length (take a t) / 8) (take a t)
-    → length ws ≡ length (take a t) / 8 → k < length ws → Seen t all (k * 8) → w ≡ from_le_bytes w64 (get_or ws k [])
+pub word-next : (t : List ℕ) (ws : List (List ℕ)) (k all w : ℕ) → ((i : ℕ) → Fits w8 (get_or t i 0)) → ws ≡ first_chunks 8 (length t / 8) t
+    → length ws ≡ length t / 8 → k < length ws → Seen t all (k * 8) → w ≡ from_le_bytes w64 (get_or ws k [])
     → Seen t (bit_or all w) ((k + 1) * 8)
-word-next t ws a k all w typed m f n h before e =
-    let long : length (take a t) ≡ a = length-take-le a t m in
+word-next t ws k all w typed f n h before e =
     let p : k * 8 + 8 ≡ (k + 1) * 8 = omega arith in
-    let c : get_or ws k [] ≡ take 8 (drop (k * 8) (take a t)) =
-    ap (λ (x : List (List ℕ)). get_or x k []) f ∙ chunk-at 8 (length (take a t) / 8) (take a t) [] k (k * 8) (omega arith) refl in
-    let r : w ≡ digits (from t (k * 8)) 8 =
-    read_8 (take a t) (k * 8) w (e ∙ ap (from_le_bytes w64) c) ∙ digits-same _ _ 8 (λ j l. get_or-take a t (k * 8 + j) 0 (omega arith)) in
+    let c : get_or ws k [] ≡ take 8 (drop (k * 8) t) =
+    ap (λ (x : List (List ℕ)). get_or x k []) f ∙ chunk-at 8 (length t / 8) t [] k (k * 8) (omega arith) refl in
+    let r : w ≡ digits (from t (k * 8)) 8 = read_8 t (k * 8) w (e ∙ ap (from_le_bytes w64) c) in
     subst (Seen t (bit_or all w)) p (bits-next t all w (k * 8) 8 (omega arith) (λ j. (typed j).fits) before r)
 
 pub byte-next : (t : List ℕ) (k all : ℕ) → ((i : ℕ) → Fits w8 (get_or t i 0)) → Seen t all k → Seen t (bit_or all (get_or t k 0)) (k + 1)
@@ -210,11 +207,10 @@ every-joined q p a m l h = same-when _ _
 
 -- the last eight bytes, of which some may have been passed
 pub last-done : (t b : List ℕ) (c k all w : ℕ) → ((i : ℕ) → Fits w8 (get_or t i 0)) → 8 ≤ length t → b ≡ drop (length t - 8) t
-    → c ≡ length (take (length t - 1) t) / 8
-    → c ≤ k → k ≤ c → Seen t all (k * 8) → w ≡ from_le_bytes w64 b → eqb (bit_and (bit_or all w) 0xFEFE_FEFE_FEFE_FEFE) 0 ≡ are_bits t
+    → c ≡ length t / 8 → c ≤ k → k ≤ c → Seen t all (k * 8) → w ≡ from_le_bytes w64 b
+    → eqb (bit_and (bit_or all w) 0xFEFE_FEFE_FEFE_FEFE) 0 ≡ are_bits t
 unfolding are_bits
 last-done t b c k all w typed l e n h g before r =
-    let long : length (take (length t - 1) t) ≡ length t - 1 = length-take-le (length t - 1) t (omega arith) in
     let a = length t - 8 in
     let z : a + 8 ≡ length t = omega arith in
     let d : b ≡ take 8 (drop a t) = e ∙ sym (take_all 8 (drop a t) (omega (arith, length-drop a t))) in

@@ -18,8 +18,7 @@ pub fn are_bits(list: &[u8]) -> bool
         }
         return all & HIGH_BITS == 0;
     };
-    let front = &list[..list.len() - 1];
-    let (words, _) = front.as_chunks::<8>();
+    let (words, _) = list.as_chunks::<8>();
     for word in words {
         all |= u64::from_le_bytes(*word);
     }
