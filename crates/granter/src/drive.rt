@@ -3,7 +3,7 @@ ghost use Rattle.std.specs.Prelude.{◌≡◌, ◌<◌, IfSome};
 ghost use Rattle.table.specs.Lent.{IsSameLoan};
 ghost use Rattle.plant.specs.Entry.{state_with};
 ghost use Rattle.granter.specs.Grant.{last_number, grant_check};
-ghost use Rattle.granter.specs.Drive.{stand_at, ended, drive_outcome_with, outcome_after, drive, Stopped, StoppedIfTaken};
+ghost use Rattle.granter.specs.Drive.{stand_at, ended, drive_result, outcome_after, drive, Stopped, StoppedIfTaken};
 
 use crate::{Driven, grant};
 use lists::refusal::Refusal;
@@ -14,7 +14,7 @@ use table::wiring::Wiring;
 
 // Grants and turns of kind 1 until a round closes, nobody is left live, or a tally is full. A drive refused at its start changes no byte.
 pub fn drive(wiring: Wiring, n: usize, table: &mut [u8], tally: Tally, last: usize) -> Driven
-    ensures outcome { drive_outcome_with result table.new
+    ensures outcome { drive_result result table.new
         ≡ drive wiring n (state_with table.old tally) last }
     ensures stopped_if_taken { let start = state_with table.old tally in
         StoppedIfTaken wiring n start last result.grants }
@@ -46,7 +46,7 @@ fn drive_on(table: &mut TableMut, tally: Tally, last: Option<Station>) -> Driven
     requires last_below { IfSome last (λ i. i.0 < table.old.n) }
     ensures same_loan { IsSameLoan table.old table.new }
     ensures outcome { let s = state_with table.old.bytes.now tally in
-        drive_outcome_with result table.new.bytes.now
+        drive_result result table.new.bytes.now
         ≡ outcome_after table.old.wiring table.old.n (stand_at s (last_number last)) result.grants }
     ensures stopped { Stopped table.old.wiring table.old.n
         (stand_at (state_with table.old.bytes.now tally) (last_number last)) result.grants }

@@ -5,7 +5,7 @@ ghost use Rattle.detection.specs.Claim.{worst_rounds};
 ghost use Rattle.latency.specs.Bound.{turns_per_round};
 ghost use Rattle.latency.specs.Wait.{wait_on, wait_answer};
 
-use crate::figures;
+use crate::turns;
 use arrayvec::ArrayVec;
 use lists::refusal::Refusal;
 use table::Station;
@@ -50,7 +50,7 @@ fn worst_rounds(wiring: Wiring, n: u8) -> u32
     ensures upper_bound { result ≤ 127 }
 {
     match wiring {
-        Wiring::Cube => figures::worst_rounds(n),
+        Wiring::Cube => turns::worst_rounds(n),
         Wiring::Ring => u32::from(n / 2),
     }
 }
@@ -61,7 +61,7 @@ fn turns_per_round(table: &Table) -> u32
     ensures upper_bound { result ≤ 256 * table.now.n }
 {
     match table.wiring {
-        Wiring::Cube => figures::turns_by_row(table.n, &dead_row(table)),
+        Wiring::Cube => turns::turns_by_row(table.n, &dead_row(table)),
         Wiring::Ring => u32::from(table.n) + live_boards(table),
     }
 }

@@ -3,7 +3,7 @@ ghost use Rattle.std.specs.Prelude.{◌≡◌, length, IfOk};
 ghost use Rattle.std.specs.Result.{result_map_both};
 ghost use Rattle.table.specs.Lent.{IsSameLoan};
 ghost use Rattle.plant.specs.Entry.{state_with};
-ghost use Rattle.plant.specs.Run.{entries, go_on, start_check, outcome_with, run};
+ghost use Rattle.plant.specs.Run.{entries, go_on, start_check, run_result, run};
 
 use crate::{Ran, Tally, entry};
 use lists::refusal::Refusal;
@@ -21,7 +21,7 @@ pub fn run(
     schedule: &[u8],
     sheet: &mut [u8],
 ) -> Ran
-    ensures { outcome_with result table.new sheet.new
+    ensures { run_result result table.new sheet.new
         ≡ run wiring n (state_with table.old tally) schedule.now sheet.old }
 {
     // By hand and not by `?`, here and in `go_on`: the answer is no Result, since a run that is stopped keeps what it did.
@@ -80,7 +80,7 @@ pub(crate) fn go_on(
         ≡ Ok tt }
     ensures same_loan { IsSameLoan table.old table.new }
     ensures run { let s = state_with table.old.bytes.now tally in
-        outcome_with result table.new.bytes.now sheet.new
+        run_result result table.new.bytes.now sheet.new
         ≡ go_on table.old.wiring table.old.n 0 s sheet.old (entries schedule.now) }
 {
     // A table of its own, whose size and place stay in registers: behind the reference they are read again after each byte that is written.

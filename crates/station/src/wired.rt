@@ -6,7 +6,7 @@ ghost use Rattle.table.specs.Wiring.{end_distance};
 ghost use Rattle.station.specs.Tests.{due};
 
 use crate::outcome::Outcome;
-use crate::{DueOrAhead, due, order};
+use crate::{DueOrAhead, due, groups};
 use table::lent::Table;
 use table::wiring::Wiring;
 use table::{Distance, Station};
@@ -57,7 +57,7 @@ impl Wired {
         ensures { result.0 ≡ wired_station self.wiring self.n i.0 m.0 }
     {
         match self.wiring {
-            Wiring::Cube => order::station_at(i, m),
+            Wiring::Cube => groups::station_at(i, m),
             Wiring::Ring => {
                 let at = i.0 + m.0;
                 self.place(at)

@@ -17,7 +17,7 @@ ghost use Rattle.accuracy.specs.Accurate.{AccurateAfter};
 ghost use Rattle.granter.specs.Grant.{grant_check, grant_station};
 ghost use Rattle.granter.specs.Drive.{StoppedIfTaken};
 ghost use Rattle.lamp.specs.Doubt.{doubt_lamp};
-ghost use Rattle.mender.specs.Report.{mend, table_after, report_after};
+ghost use Rattle.mender.specs.Report.{mend, mended_after, report_after};
 ghost use Rattle.saved.specs.Load.{saved_size, size_figure, load_answer, loaded_figures, load_after};
 ghost use Rattle.saved.specs.Save.{save_check, save_after};
 ghost use Rattle.saved.specs.Convert.{convert_check, convert_after, converted_length, length_figure};
@@ -310,7 +310,7 @@ pub extern "C" fn vcube_mend(
     ensures changes_after { let room = length report.old in
         changes.new ≡ on_wiring wiring 0 (λ w. result_unwrap_or (mend w n table.old room) 0) }
     ensures mended_table { let room = length report.old in
-        table.new ≡ on_wiring wiring table.old (λ w. table_after w n table.old room) }
+        table.new ≡ on_wiring wiring table.old (λ w. mended_after w n table.old room) }
     ensures listed_changes { report.new
         ≡ on_wiring wiring report.old (λ w. report_after w n table.old report.old) }
 {
