@@ -86,7 +86,10 @@ pub(crate) fn take_entry(
     let outcome = done.outcome_byte();
     let over = rounds::close_round(table, station);
     let status = table.read().get(station, cells::STATUS);
-    line.copy_from_slice(&[station.0, tested, outcome, status]);
+    line[0] = station.0;
+    line[1] = tested;
+    line[2] = outcome;
+    line[3] = status;
     Tally {
         rounds: tally.rounds + u32::from(over),
         tests: tally.tests + u32::from(made_test(done)),

@@ -1,9 +1,10 @@
 // What a turn goes by, on a table or on a board's own line: the wiring, the size, and the end distance of both.
-ghost use Rattle.std.specs.Prelude.{◌≡◌, ◌-◌, true};
+ghost use Rattle.std.specs.Prelude.{◌≡◌, ◌-◌, ◌<◌, true, IsTrue};
 ghost use Rattle.lists.specs.Search.{least};
 ghost use Rattle.table.specs.Sizes.{is_size};
 ghost use Rattle.table.specs.Wiring.{end_distance};
 ghost use Rattle.station.specs.Tests.{due};
+ghost use Rattle.station.specs.Ahead.{SomebodyBefore, block_end};
 
 use crate::outcome::Outcome;
 use crate::{DueOrAhead, due, groups};
@@ -106,24 +107,49 @@ impl Wired {
 }
 
 // The least distance from `from` on, and below `end`, that is due for i by its row; `end`, or `from` if that is greater, where there is none.
-// Where the answer is not "due", no distance of the block that begins there is due, and the scan goes on behind it.
+// Where somebody unsuspected stands before i, no distance of the block that begins there is due, and the scan goes on behind it. One such station
+// is found at once, unless it is suspected.
 fn scan(row: &[u8], i: Station, end: u8, from: Distance) -> Distance
     ensures { result.0 ≡ least (due row.now i.0) (end - from.0) from.0 }
 {
-    let mut m = from.0 as u16;
+    // Distance 0 is never due.
+    let mut m = (from.0 as u16).max(1);
     while m < end as u16 {
         let at = Distance(m as u8);
-        if !due::stands(row, i, at) {
-            m += 1;
-            continue;
+        if !is_nearer_ahead(row, i, at) {
+            if !due::stands(row, i, at) {
+                m += 1;
+                continue;
+            }
+            if due::due_or_ahead(row, i, at).is_due() {
+                return at;
+            }
         }
-        let answer = due::due_or_ahead(row, i, at);
-        let DueOrAhead::Due = answer else {
-            let last = due::block_end(at);
-            m = last.0 as u16 + 1;
-            continue;
-        };
-        return at;
+        let last = block_end(at);
+        m = last.0 as u16 + 1;
     }
     Distance(end.max(from.0))
+}
+
+// Whether the row leaves that station unsuspected which stands, from the one at distance m, at the distance m without its lowest 1. It stands before
+// i.
+fn is_nearer_ahead(row: &[u8], i: Station, m: Distance) -> bool
+    requires { 0 < m.0 }
+    ensures { IsTrue result → SomebodyBefore row.now i.0 m.0 }
+{
+    let nearer = Distance(m.0 & (m.0 - 1));
+    if nearer.0 == 0 {
+        return false;
+    }
+    let x = groups::station_at(groups::station_at(i, m), nearer);
+    due::is_unsuspected(row, x)
+}
+
+// m with its digits below its lowest 1 all 1. Whoever stands before a station in the group at distance m does so at every distance from m to
+// this one.
+fn block_end(m: Distance) -> Distance
+    requires { 0 < m.0 }
+    ensures { result.0 ≡ block_end m.0 }
+{
+    Distance(m.0 | (m.0 - 1))
 }
