@@ -190,7 +190,7 @@ fn exchange_rows(table: &mut TableMut, i: Station, j: Station)
     let lent = table.read();
     let first = lent.row(i);
     let second = lent.row(j);
-    if bytes::same_bytes(first, second) {
+    if words::same_bytes(first, second) {
         return;
     }
     let mut both = [0u8; 64];

@@ -32,12 +32,12 @@ loop-m-preserved c =
     let last = c.block_end-last.ensures in
     let block : (y : ℕ) → m ≤ y → y ≤ c.block_end-last.result.0 → due c.args.row.now c.args.i.0 y ≡ false =
     elim c.if-not-is_nearer_ahead.branch [
-      then-not-is_nearer_ahead+else-not-stands+else-is_due w ↦ (
-        let here = sym w.stands.ensures ∙ w.if-not-stands.false in
-        let named = names _ (rw w.due_or_ahead.ensures at (sym w.is_due.ensures ∙ w.if-is_due.false)) in
-        λ y lo hi. none-due-in-block _ _ m named.0 y here named.1 lo (omega (arith, hi, last)))
+      | then-not-is_nearer_ahead+else-not-stands+else-is_due w ↦ (
+          let here = sym w.stands.ensures ∙ w.if-not-stands.false in
+          let named = names _ (rw w.due_or_ahead.ensures at (sym w.is_due.ensures ∙ w.if-is_due.false)) in
+          λ y lo hi. none-due-in-block _ _ m named.0 y here named.1 lo (omega (arith, hi, last)))
       | else-not-is_nearer_ahead w ↦ (
-        λ y lo hi. none-due-behind _ _ m y (c.is_nearer_ahead.ensures w.if-not-is_nearer_ahead.false) lo (omega (arith, hi, last)))
+          λ y lo hi. none-due-behind _ _ m y (c.is_nearer_ahead.ensures w.if-not-is_nearer_ahead.false) lo (omega (arith, hi, last)))
     ] in
     record {
       above_0 = omega arith;
