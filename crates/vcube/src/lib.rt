@@ -14,7 +14,7 @@ ghost use Rattle.detection.specs.Runs.{call_of, run_by, CountsTaken};
 ghost use Rattle.detection.specs.InList.{DetectionInList, DrivenDetectionInList};
 ghost use Rattle.detection.specs.Driven.{a_run, a_drive, drive_by};
 ghost use Rattle.accuracy.specs.Accurate.{AccurateAfter};
-ghost use Rattle.granter.specs.Grant.{grant_check, grant_station};
+ghost use Rattle.granter.specs.Grant.{grant_answer, grant_station};
 ghost use Rattle.granter.specs.Drive.{StoppedIfTaken};
 ghost use Rattle.lamp.specs.Doubt.{doubt_lamp};
 ghost use Rattle.mender.specs.Report.{mend, mended_after, report_after};
@@ -216,7 +216,7 @@ pub extern "C" fn vcube_grant(
     last: usize,
     station: &mut usize,
 ) -> u8
-    ensures number { result ≡ on_wiring wiring no_such_wiring (λ w. number_of_result (grant_check w n table.now last)) }
+    ensures number { result ≡ on_wiring wiring no_such_wiring (λ w. number_of_result (grant_answer w n table.now last)) }
     ensures station_after { station.new ≡ on_wiring wiring 0 (λ w. grant_station w n table.now last) }
 {
     let Ok(wiring) = Wiring::try_from(wiring) else {
