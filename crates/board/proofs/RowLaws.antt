@@ -10,6 +10,7 @@ use Rattle.lists.proofs.BoolLaws.{every-same}
 use Rattle.table.specs.Line.{row_of}
 use Rattle.table.specs.Rules.{row_rule_by}
 use Rattle.table.proofs.LineLaws.{row_of-at}
+use Rattle.table.proofs.StatusLaws.{status_ok, status_err}
 use Rattle.station.specs.Rows.{suspects_all}
 use Rattle.board.specs.Board.{suspicion_of}
 
@@ -23,3 +24,6 @@ module _ (n : ℕ) (l r : List ℕ) (i : ℕ) (e : r ≡ row_of n l) (long : len
   row_rule_by_row h =
       rw (long, e)
       (ap₂ (λ (a : ℕ) (b : Bool). eqb a 0 && b) (row_of-at n l i h) (every-same _ _ n (λ k hk. ap (λ (a : ℕ). leb a 1) (row_of-at n l k hk))))
+
+-- what the rules of a line are asked by
+pub ruleset line_asked = (status_ok, status_err, row_rule_by_row)

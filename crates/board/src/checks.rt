@@ -1,7 +1,7 @@
 // What each call of a board asks of its inputs, in the order of the refusals.
 ghost use Rattle.std.specs.Prelude.{◌≡◌, ◌<◌, length, IfOk, slice_index};
 ghost use Rattle.std.specs.Result.{result_map_both};
-ghost use Rattle.table.specs.Rules.{row_rule_by, length_check};
+ghost use Rattle.table.specs.Rules.{length_check};
 ghost use Rattle.table.specs.Table.{stride, tests_column};
 ghost use Rattle.board.specs.Packed.{packed_length};
 ghost use Rattle.board.specs.Calls.{line_rules, place_check, line_check, live_check, turn_check, sent_check};
@@ -111,7 +111,7 @@ impl Board {
     }
 
     // Whether the line keeps the line rules.
-    #[tactic(auto, using(table::proofs::StatusLaws::status_ok, table::proofs::StatusLaws::status_err, crate::proofs::RowLaws::row_rule_by_row), unfolding(crate::specs::Calls::line_rules))]
+    #[tactic(auto, using(crate::proofs::RowLaws::line_asked), unfolding(crate::specs::Calls::line_rules))]
     fn keeps_line_rules(self, line: &[u8]) -> bool
         requires { length line.now ≡ stride self.wired.n }
         ensures { result ≡ line_rules self.wired.wiring self.wired.n self.own.0 line.now }
@@ -122,7 +122,7 @@ impl Board {
         let next = line[board::NEXT];
         let finished = line[board::FINISHED];
         let tests = line[board::TESTS];
-        if !rules::pass_rule(self.wired.end as u16, next, finished, tests) {
+        if !rules::pass_rule(self.wired.end, next, finished, tests) {
             return false;
         }
         let by = line[board::TOLD_BY];
@@ -130,16 +130,6 @@ impl Board {
         if !rules::exit_rule(self.wired.n, self.own, status, by, ago) {
             return false;
         }
-        self.keeps_row_rule(self.row(line))
-    }
-
-    // Whether the row keeps its rules. By words, which is quicker than table's check by bytes where there are no vectors.
-    #[tactic(auto, unfolding(words::specs::Words::are_bits))]
-    fn keeps_row_rule(self, row: &[u8]) -> bool
-        requires { length row.now ≡ self.wired.n }
-        ensures { result ≡ row_rule_by (length row.now) self.own.0 (slice_index row.now) }
-    {
-        let own = self.own.0 as usize;
-        (row[own] == 0) & words::are_bits(row)
+        rules::keeps_row_rule(self.row(line), self.own)
     }
 }

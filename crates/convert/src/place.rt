@@ -194,7 +194,9 @@ impl Form {
     {
         fresh::fresh_table(self.size as usize, own)?;
         let table = &mut TableMut {
+            wiring: Wiring::Cube,
             n: self.size,
+            end: Wiring::Cube.end_byte(self.size),
             bytes: own,
         };
         lines::put_line(table, self.edition, i, line);

@@ -176,7 +176,9 @@ fn eight_assigned(rt: &impl Print) {
     let mut list = [0u8; 14];
     assignment_line(rt, 8, &table, 5, &mut list);
     let mut lent = TableMut {
+        wiring: Wiring::Cube,
         n: 8,
+        end: Wiring::Cube.end_byte(8),
         bytes: &mut table,
     };
     lent.put(Station(5), cells::HEAD + 4, 1);
@@ -229,7 +231,9 @@ fn late_turn(rt: &impl Print) {
     sheet_line(rt, &sheet[0..4]);
     run_line(rt, ran);
     let lent = Table {
+        wiring: Wiring::Cube,
         n: 4,
+        end: Wiring::Cube.end_byte(4),
         bytes: &table,
     };
     let told_by = lent.get(Station(1), cells::TOLD_BY);

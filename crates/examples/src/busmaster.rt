@@ -135,7 +135,9 @@ fn nobody_left(rt: &impl Print) {
     let mut table = [0u8; TWO];
     let _ = fresh::fresh_table(2, &mut table);
     let mut lent = TableMut {
+        wiring: Wiring::Cube,
         n: 2,
+        end: Wiring::Cube.end_byte(2),
         bytes: &mut table,
     };
     lent.put(Station(0), cells::HEAD + 1, 1);

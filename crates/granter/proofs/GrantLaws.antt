@@ -54,15 +54,6 @@ grant_ok w n t last x e =
 pub grantable_open : (w : Wiring) (n : ℕ) (t : List ℕ) (last : ℕ) → Grantable w n t last → round_over n t ≡ false
 grantable_open w n t last g = g.ok.unclosed
 
-pub grant_answer_refusal : (w : Wiring) (n : ℕ) (t : List ℕ) (last : ℕ)
-    → number_of_result (grant_answer w n t last) ≡ number_of_result (grant_check w n t last)
-unfolding grant_answer
-grant_answer_refusal w n t last = pick (grant_check w n t last)
-  where
-    pick : (c : Check) → number_of_result (c and Ok (granted n t last)) ≡ number_of_result c
-    pick (Ok x) = refl
-    pick (Err r) = refl
-
 pub grantable : (w : Wiring) (n : ℕ) (t : List ℕ) (last : ℕ) → grant_check w n t last ≡ Ok tt → Grantable w n t last
 grantable w n t last z = grant_ok w n t last _ z
 

@@ -67,8 +67,8 @@ abbrev pub drive_outcome : Option Refusal → State → ℕ → ℕ → DriveRes
 drive_outcome stopped s last grants = record { stopped = stopped; state = s; last = last; grants = grants }
 
 -- the outcome of a call: what it answers, and the table as it left it
-abbrev pub drive_outcome_with : Driven → List ℕ → DriveResult
-drive_outcome_with d t = drive_outcome d.stopped (state_with t d.tally) d.last d.grants
+abbrev pub drive_result : Driven → List ℕ → DriveResult
+drive_result d t = drive_outcome d.stopped (state_with t d.tally) d.last d.grants
 
 -- the outcome after k grants: refusal 7 unless the drive has ended. The turns that were made stay
 unfoldable pub outcome_after : Wiring → ℕ → Stand → ℕ → DriveResult

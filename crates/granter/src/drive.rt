@@ -3,7 +3,7 @@ ghost use Rattle.std.specs.Prelude.{◌≡◌, ◌<◌, IfSome};
 ghost use Rattle.table.specs.Lent.{IsSameLoan};
 ghost use Rattle.plant.specs.Entry.{state_with};
 ghost use Rattle.granter.specs.Grant.{last_number, grant_check};
-ghost use Rattle.granter.specs.Drive.{stand_at, ended, drive_outcome_with, outcome_after, drive, Stopped, StoppedIfTaken};
+ghost use Rattle.granter.specs.Drive.{stand_at, ended, drive_result, outcome_after, drive, Stopped, StoppedIfTaken};
 
 use crate::{Driven, grant};
 use lists::refusal::Refusal;
@@ -14,14 +14,14 @@ use table::wiring::Wiring;
 
 // Grants and turns of kind 1 until a round closes, nobody is left live, or a tally is full. A drive refused at its start changes no byte.
 pub fn drive(wiring: Wiring, n: usize, table: &mut [u8], tally: Tally, last: usize) -> Driven
-    ensures outcome { drive_outcome_with result table.new
+    ensures outcome { drive_result result table.new
         ≡ drive wiring n (state_with table.old tally) last }
     ensures stopped_if_taken { let start = state_with table.old tally in
         StoppedIfTaken wiring n start last result.grants }
 {
     // By hand and not by `?`: the answer is no Result, since a drive that is stopped keeps the turns that it made.
-    let (n, before) = match grant::check_grant(wiring, n, table, last) {
-        Ok((lent, before)) => (lent.n, before),
+    let (n, end, before) = match grant::check_grant(wiring, n, table, last) {
+        Ok((lent, before)) => (lent.n, lent.end, before),
         Err(refusal) => {
             return Driven {
                 tally,
@@ -31,19 +31,24 @@ pub fn drive(wiring: Wiring, n: usize, table: &mut [u8], tally: Tally, last: usi
             };
         }
     };
-    let mut lent = TableMut { n, bytes: table };
-    drive_on(wiring, &mut lent, tally, before)
+    let mut lent = TableMut {
+        wiring,
+        n,
+        end,
+        bytes: table,
+    };
+    drive_on(&mut lent, tally, before)
 }
 
 // A drive that is not refused at its start: grant and turn until it stops.
-fn drive_on(wiring: Wiring, table: &mut TableMut, tally: Tally, last: Option<Station>) -> Driven
-    requires taken { grant_check wiring table.old.n table.old.bytes.now (last_number last) ≡ Ok tt }
+fn drive_on(table: &mut TableMut, tally: Tally, last: Option<Station>) -> Driven
+    requires taken { grant_check table.old.wiring table.old.n table.old.bytes.now (last_number last) ≡ Ok tt }
     requires last_below { IfSome last (λ i. i.0 < table.old.n) }
     ensures same_loan { IsSameLoan table.old table.new }
     ensures outcome { let s = state_with table.old.bytes.now tally in
-        drive_outcome_with result table.new.bytes.now
-        ≡ outcome_after wiring table.old.n (stand_at s (last_number last)) result.grants }
-    ensures stopped { Stopped wiring table.old.n
+        drive_result result table.new.bytes.now
+        ≡ outcome_after table.old.wiring table.old.n (stand_at s (last_number last)) result.grants }
+    ensures stopped { Stopped table.old.wiring table.old.n
         (stand_at (state_with table.old.bytes.now tally) (last_number last)) result.grants }
 {
     let mut held = tally;
@@ -54,7 +59,7 @@ fn drive_on(wiring: Wiring, table: &mut TableMut, tally: Tally, last: Option<Sta
             break Some(Refusal::TallyFull);
         }
         let i = grant::next_station(&table.read(), before);
-        held = single::take_turn(wiring, table, held, i);
+        held = single::take_turn(table, held, i);
         before = Some(i);
         grants += 1;
         let ended = has_ended(&table.read(), tally.rounds, held);

@@ -30,6 +30,7 @@ pub(crate) fn check_grant(
     last: usize,
 ) -> Result<(Table<'_>, Option<Station>), Refusal>
     ensures check { result_map_both (λ s. tt) (λ r. r) result ≡ grant_check wiring n table.now last }
+    ensures same_wiring { IfOk result (λ s. s.0.wiring ≡ wiring) }
     ensures same_size { IfOk result (λ s. s.0.n ≡ n) }
     ensures same_bytes { IfOk result (λ s. s.0.bytes.now ≡ table.now) }
     ensures same_last { IfOk result (λ s. last_number s.1 ≡ last) }

@@ -28,7 +28,7 @@ use Rattle.detection.specs.Claim.{worst_latency}
 use Rattle.detection.proofs.Knowledge.{row-due}
 use Rattle.detection.proofs.LedCount.{leads_below, leads-none, led-count}
 use Rattle.latency.specs.Bound.{turns_per_round}
-use Rattle.latency.specs.Figures.{turns_of, turns_by_row, known_with, most_until_known, FiguresCover}
+use Rattle.latency.specs.Turns.{turns_of, turns_by_row, known_with, most_until_known, FiguresCover}
 
 -- a number of one byte
 pub dimension-most : (n : ℕ) → n < 2 ^ 8 → dimension n ≤ 8

@@ -14,7 +14,7 @@ use Rattle.table.specs.Properties.{exact_row}
 use Rattle.table.proofs.SizeLaws.{size-distances}
 use Rattle.table.specs.declared.wiring.Wiring.TheVariants.{Cube}
 use Rattle.latency.specs.Bound.{turns_per_round}
-use Rattle.latency.specs.Figures.{turns_by_row}
+use Rattle.latency.specs.Turns.{turns_by_row}
 use Rattle.latency.proofs.RowFigures.{turns-by-row}
 
 -- byte j of the row that suspects exactly the dead boards

@@ -1,5 +1,5 @@
 -- What the contracts of `latency` cite.
 pub mod Bound
 pub mod Crash
-pub mod Figures
+pub mod Turns
 pub mod Wait

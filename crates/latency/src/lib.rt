@@ -2,7 +2,7 @@
 // file does nothing: its clauses are the claims.
 #![tactic(auto)]
 
-pub mod figures;
+pub mod turns;
 pub mod wait;
 
 ghost use Rattle.latency.specs.Bound.{RoundsWithin, KnownWithin, MixedKnownWithin, DriveWithin, DrivesKnownWithin};

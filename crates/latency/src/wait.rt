@@ -5,7 +5,7 @@ ghost use Rattle.detection.specs.Claim.{worst_rounds};
 ghost use Rattle.latency.specs.Bound.{turns_per_round};
 ghost use Rattle.latency.specs.Wait.{wait_on, wait_answer};
 
-use crate::figures;
+use crate::turns;
 use arrayvec::ArrayVec;
 use lists::refusal::Refusal;
 use table::Station;
@@ -27,15 +27,15 @@ pub fn wait_of(wiring: Wiring, n: usize, table: &[u8]) -> Result<Wait, Refusal>
     ensures { result ≡ wait_answer wiring n table.now }
 {
     let table = Table::checked(wiring, n, table)?;
-    Ok(wait_on(wiring, &table))
+    Ok(wait_on(&table))
 }
 
 // The bounds for a table that is not refused.
-fn wait_on(wiring: Wiring, table: &Table) -> Wait
-    ensures { result ≡ wait_on wiring table.now.n table.now.bytes.now }
+fn wait_on(table: &Table) -> Wait
+    ensures { result ≡ wait_on table.now.wiring table.now.n table.now.bytes.now }
 {
-    let rounds = worst_rounds(wiring, table.n);
-    let turns = turns_per_round(wiring, table);
+    let rounds = worst_rounds(table.wiring, table.n);
+    let turns = turns_per_round(table);
     Wait {
         rounds,
         turns_per_round: turns,
@@ -50,18 +50,18 @@ fn worst_rounds(wiring: Wiring, n: u8) -> u32
     ensures upper_bound { result ≤ 127 }
 {
     match wiring {
-        Wiring::Cube => figures::worst_rounds(n),
+        Wiring::Cube => turns::worst_rounds(n),
         Wiring::Ring => u32::from(n / 2),
     }
 }
 
 // How many turns a round has at most.
-fn turns_per_round(wiring: Wiring, table: &Table) -> u32
-    ensures turns { result ≡ turns_per_round wiring table.now.n table.now.bytes.now }
+fn turns_per_round(table: &Table) -> u32
+    ensures turns { result ≡ turns_per_round table.now.wiring table.now.n table.now.bytes.now }
     ensures upper_bound { result ≤ 256 * table.now.n }
 {
-    match wiring {
-        Wiring::Cube => figures::turns_by_row(table.n, &dead_row(table)),
+    match table.wiring {
+        Wiring::Cube => turns::turns_by_row(table.n, &dead_row(table)),
         Wiring::Ring => u32::from(table.n) + live_boards(table),
     }
 }

@@ -7,7 +7,6 @@ ghost use Rattle.lists.specs.Bytes.{joined_bytes, with_joined};
 pub fn greater(a: u8, b: u8) -> u8
     ensures { result ≡ max a b }
 {
-    // An `if` and not std's `max`, with which the check of a table is slower.
     if a < b { b } else { a }
 }
 

@@ -175,83 +175,84 @@ unfolding line_start table_length
 line-last n = refl
 
 -- the mending that began as m has come to place p
-pub record Reached (w : Wiring) (over : Bool) (m now : Mending) (p : ℕ) : Type 0 where
+pub record Reached (over : Bool) (m now : Mending) (p : ℕ) : Type 0 where
   pub same : IsSameMending m now
-  pub so_far : Progress m.table.now (mended_by w m.n m.table.now over) m.report.now p now.table.now now.report.now now.changes
+  pub so_far : Progress m.table.now (mended_by m.wiring m.n m.table.now over) m.report.now p now.table.now now.report.now now.changes
 
-pub reached-start : (w : Wiring) (over : Bool) (m : Mending) → m.changes ≡ 0 → Reached w over m m (line_start m.n 0)
-reached-start w over m none =
+pub reached-start : (over : Bool) (m : Mending) → m.changes ≡ 0 → Reached over m m (line_start m.n 0)
+reached-start over m none =
     record {
-      same = record { size = refl; table_reference = refl; report_reference = refl };
-      so_far = progress-start m.table.now (mended_by w m.n m.table.now over) m.report.now (line_start m.n 0) m.changes (line-first m.n) none;
+      same = record { wiring = refl; size = refl; table_reference = refl; report_reference = refl };
+      so_far = progress-start m.table.now (mended_by m.wiring m.n m.table.now over) m.report.now (line_start m.n 0) m.changes (line-first m.n) none;
     }
 
 -- the same place by another name
-pub reached-at : {w : Wiring} {p q : ℕ} {over : Bool} {m now : Mending} → Reached w over m now p → p ≡ q → Reached w over m now q
-reached-at {w} {p} {q} {over} {m} {now} g e = subst (λ (x : ℕ). Reached w over m now x) e g
+pub reached-at : {p q : ℕ} {over : Bool} {m now : Mending} → Reached over m now p → p ≡ q → Reached over m now q
+reached-at {p} {q} {over} {m} {now} g e = subst (λ (x : ℕ). Reached over m now x) e g
 
 -- a place of line i is one of the table
-pub reached-inside : {w : Wiring} {p : ℕ} {over : Bool} {m now : Mending} (i c at : ℕ) → Reached w over m now p → i < m.n → c < stride m.n
+pub reached-inside : {p : ℕ} {over : Bool} {m now : Mending} (i c at : ℕ) → Reached over m now p → i < m.n → c < stride m.n
     → at ≡ line_start m.n i + c → at < length now.table.now
-reached-inside {w} {p} {over} {m} {now} i c at g h hc a =
+reached-inside {p} {over} {m} {now} i c at g h hc a =
     let long : length now.table.now ≡ table_length m.n = now.fits ∙ ap table_length g.same.size in
     omega (arith, inside m.n i c h hc)
 
 -- as many changes as places at most
-pub reached-few : {w : Wiring} {p : ℕ} {over : Bool} {m now : Mending} → Reached w over m now p → now.changes ≤ p
-reached-few {w} {p} {over} {m} {now} g =
-    omega (arith, g.so_far.counted, changes-few m.table.now (mended_by w m.n m.table.now over) p)
+pub reached-few : {p : ℕ} {over : Bool} {m now : Mending} → Reached over m now p → now.changes ≤ p
+reached-few {p} {over} {m} {now} g =
+    omega (arith, g.so_far.counted, changes-few m.table.now (mended_by m.wiring m.n m.table.now over) p)
 
 -- a byte of a line that the loops have not reached
-reached-ahead : {w : Wiring} {p : ℕ} {over : Bool} {m now : Mending} (i c : ℕ) → Reached w over m now p → p ≤ line_start m.n i + c
+reached-ahead : {p : ℕ} {over : Bool} {m now : Mending} (i c : ℕ) → Reached over m now p → p ≤ line_start m.n i + c
     → cell m.n now.table.now i c ≡ cell m.n m.table.now i c
 unfolding cell
-reached-ahead {w} {p} {over} {m} {now} i c g h =
-    progress-ahead m.table.now (mended_by w m.n m.table.now over) m.report.now p _ _ _ (line_start m.n i + c) g.so_far h
+reached-ahead {p} {over} {m} {now} i c g h =
+    progress-ahead m.table.now (mended_by m.wiring m.n m.table.now over) m.report.now p _ _ _ (line_start m.n i + c) g.so_far h
 
 -- the mended byte is put at its place
-pub reached-next : {w : Wiring} {p at byte : ℕ} {over : Bool} {m now next : Mending} (q : ℕ) → Reached w over m now p → at ≡ p → q ≡ p + 1
-    → byte ≡ get_or (mended_by w m.n m.table.now over) p 0 → IsSameMending now next → next.table.now ≡ set now.table.now at byte
+pub reached-next : {p at byte : ℕ} {over : Bool} {m now next : Mending} (q : ℕ) → Reached over m now p → at ≡ p → q ≡ p + 1
+    → byte ≡ get_or (mended_by m.wiring m.n m.table.now over) p 0 → IsSameMending now next → next.table.now ≡ set now.table.now at byte
     → next.report.now ≡ with_change now.report.now now.changes (record { offset = at; before = get_or now.table.now at 0; after = byte })
     → next.changes ≡ count_with now.changes (record { offset = at; before = get_or now.table.now at 0; after = byte })
-    → Reached w over m next q
-reached-next {w} {p} {at} {byte} {over} {m} {now} {next} q g a n b s t l c =
+    → Reached over m next q
+reached-next {p} {at} {byte} {over} {m} {now} {next} q g a n b s t l c =
     record {
       same = record {
+        wiring = s.wiring ∙ g.same.wiring;
         size = s.size ∙ g.same.size;
         table_reference = s.table_reference ∙ g.same.table_reference;
         report_reference = s.report_reference ∙ g.same.report_reference;
       };
-      so_far = progress-next m.table.now (mended_by w m.n m.table.now over) m.report.now p at q _ _ _ _ _ _ _ g.so_far a n b t l c;
+      so_far = progress-next m.table.now (mended_by m.wiring m.n m.table.now over) m.report.now p at q _ _ _ _ _ _ _ g.so_far a n b t l c;
     }
 
 -- bytes 0 to 5 of line i, made when the loops came to the line
-pub head-put : {w : Wiring} {over : Bool} {m now : Mending} (i c : ℕ) (read : Table) (made : List ℕ) → Reached w over m now (line_start m.n i)
-    → i < m.n → c < head → read.n ≡ now.n → read.bytes.now ≡ now.table.now → made ≡ list_of (mended_byte w read.n read.bytes.now over i) 6
-    → get_or made c 0 ≡ get_or (mended_by w m.n m.table.now over) (line_start m.n i + c) 0
-head-put {w} {over} {m} {now} i c read made g h hc e d b =
-    rw (b, e ∙ g.same.size, d) (list_of-at (mended_byte w m.n now.table.now over i) 6 c hc)
-    ∙ head-same w m.n now.table.now m.table.now over i c (λ k hk. reached-ahead i k g (omega arith)) hc
-    ∙ sym (table_of-at m.n (mended_byte w m.n m.table.now over) i c h (omega arith))
+pub head-put : {over : Bool} {m now : Mending} (i c : ℕ) (read : Table) (made : List ℕ) → Reached over m now (line_start m.n i)
+    → i < m.n → c < head → read.wiring ≡ now.wiring → read.n ≡ now.n → read.bytes.now ≡ now.table.now → made ≡ list_of (mended_byte read.wiring read.n read.bytes.now over i) 6
+    → get_or made c 0 ≡ get_or (mended_by m.wiring m.n m.table.now over) (line_start m.n i + c) 0
+head-put {over} {m} {now} i c read made g h hc v e d b =
+    rw (b, v ∙ g.same.wiring, e ∙ g.same.size, d) (list_of-at (mended_byte m.wiring m.n now.table.now over i) 6 c hc)
+    ∙ head-same m.wiring m.n now.table.now m.table.now over i c (λ k hk. reached-ahead i k g (omega arith)) hc
+    ∙ sym (table_of-at m.n (mended_byte m.wiring m.n m.table.now over) i c h (omega arith))
 
 -- a byte of the row of line i that the loops have not reached
-pub row-put : {w : Wiring} {p : ℕ} {over : Bool} {m now : Mending} (i k at : ℕ) → Reached w over m now p → p ≤ at → i < m.n → k < m.n
+pub row-put : {p : ℕ} {over : Bool} {m now : Mending} (i k at : ℕ) → Reached over m now p → p ≤ at → i < m.n → k < m.n
     → at ≡ line_start m.n i + (head + k)
-    → mended_suspicion i k (get_or now.table.now at 0) ≡ get_or (mended_by w m.n m.table.now over) (line_start m.n i + (head + k)) 0
+    → mended_suspicion i k (get_or now.table.now at 0) ≡ get_or (mended_by m.wiring m.n m.table.now over) (line_start m.n i + (head + k)) 0
 unfolding cell
-row-put {w} {p} {over} {m} {now} i k at g l h hk a =
+row-put {p} {over} {m} {now} i k at g l h hk a =
     rw a (ap (mended_suspicion i k) (reached-ahead i (head + k) g (omega arith)))
-    ∙ sym (row-byte w m.n m.table.now over i k) ∙ sym (table_of-at m.n (mended_byte w m.n m.table.now over) i (head + k) h (omega arith))
+    ∙ sym (row-byte m.wiring m.n m.table.now over i k) ∙ sym (table_of-at m.n (mended_byte m.wiring m.n m.table.now over) i (head + k) h (omega arith))
 
 -- a row that keeps its rules stays
-pub row-skip : {w : Wiring} {over : Bool} {m now : Mending} (i : ℕ) (read : Table) → Reached w over m now (line_start m.n i + head) → i < m.n
+pub row-skip : {over : Bool} {m now : Mending} (i : ℕ) (read : Table) → Reached over m now (line_start m.n i + head) → i < m.n
     → read.n ≡ now.n → read.bytes.now ≡ now.table.now → row_rule read.n read.bytes.now i ≡ true
-    → Reached w over m now (line_start m.n (i + 1))
+    → Reached over m now (line_start m.n (i + 1))
 unfolding row_rule cell
-row-skip {w} {over} {m} {now} i read g h e d kept =
+row-skip {over} {m} {now} i read g h e d kept =
     let start = line_start m.n i + head in
     let t = now.table.now in
-    let mended = mended_by w m.n m.table.now over in
+    let mended = mended_by m.wiring m.n m.table.now over in
     let here : row_rule read.n t i ≡ true = subst (λ (x : List ℕ). row_rule read.n x i ≡ true) d kept in
     let here : row_rule m.n t i ≡ true = subst (λ (x : ℕ). row_rule x t i ≡ true) (e ∙ g.same.size) here in
     let parts = both (eqb (get_or t (line_start m.n i + (head + i)) 0) 0) (every (suspicion_rule m.n t i) m.n) here in
@@ -268,10 +269,10 @@ row-skip {w} {over} {m} {now} i read g h e d kept =
     reached-at (record { same = g.same; so_far = end }) (omega (arith, line-next m.n i))
 
 -- after the last line
-pub all-done : {w : Wiring} {p : ℕ} {over : Bool} {m now : Mending} → Reached w over m now p → p ≡ line_start m.n m.n
-    → let u = mended_by w m.n m.table.now over in
+pub all-done : {p : ℕ} {over : Bool} {m now : Mending} → Reached over m now p → p ≡ line_start m.n m.n
+    → let u = mended_by m.wiring m.n m.table.now over in
     (now.table.now ≡ u) × (now.report.now ≡ sets m.report.now 0 (flat_map change_bytes (changes m.table.now u)))
     × (now.changes ≡ length (changes m.table.now u))
-all-done {w} {p} {over} {m} {now} g e =
-    progress-done m.table.now (mended_by w m.n m.table.now over) m.report.now p now.table.now now.report.now now.changes g.so_far
-    (e ∙ line-last m.n ∙ sym m.fits) (table_of-length m.n (mended_byte w m.n m.table.now over) ∙ sym m.fits)
+all-done {p} {over} {m} {now} g e =
+    progress-done m.table.now (mended_by m.wiring m.n m.table.now over) m.report.now p now.table.now now.report.now now.changes g.so_far
+    (e ∙ line-last m.n ∙ sym m.fits) (table_of-length m.n (mended_byte m.wiring m.n m.table.now over) ∙ sym m.fits)

@@ -6,8 +6,9 @@ use Rattle.mender.specs.declared.report.Change.{Change}
 use Rattle.mender.specs.declared.mending.Mending.{Mending}
 use Rattle.mender.specs.Report.{change_bytes}
 
--- it stays the same lent memory, of the same size
+-- it stays the same lent memory, of the same wiring and size
 pub record IsSameMending (old new : Mending) : Type 0 where
+  pub wiring : new.wiring ≡ old.wiring
   pub size : new.n ≡ old.n
   pub table_reference : new.table.ghost_name ≡ old.table.ghost_name
   pub report_reference : new.report.ghost_name ≡ old.report.ghost_name

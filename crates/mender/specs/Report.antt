@@ -45,8 +45,8 @@ unfoldable pub mend : Wiring → ℕ → List ℕ → ℕ → Result ℕ Refusal
 mend w n t room = mend_check n (length t) room and Ok (length (mends w n t))
 
 -- Rule Mend: the table after the call
-unfoldable pub table_after : Wiring → ℕ → List ℕ → ℕ → List ℕ
-table_after w n t room = unless_refused (mend_check n (length t) room) t (mended w n t)
+unfoldable pub mended_after : Wiring → ℕ → List ℕ → ℕ → List ℕ
+mended_after w n t room = unless_refused (mend_check n (length t) room) t (mended w n t)
 
 -- Rule Mend: the report after the call
 unfoldable pub report_after : Wiring → ℕ → List ℕ → List ℕ → List ℕ

@@ -12,7 +12,7 @@ ghost use Rattle.std.specs.Prelude.{◌≡◌, ◌*◌, ◌≤◌, true, length}
 ghost use Rattle.table.specs.Sizes.{is_size};
 ghost use Rattle.table.specs.Table.{table_length};
 ghost use Rattle.mender.specs.Mended.{mended};
-ghost use Rattle.mender.specs.Report.{mends, report_of, mend, table_after, report_after};
+ghost use Rattle.mender.specs.Report.{mends, report_of, mend, mended_after, report_after};
 
 use crate::mending::Mending;
 use lists::refusal::Refusal;
@@ -20,13 +20,13 @@ use table::lent::Table;
 use table::wiring::Wiring;
 
 // Mends the table, lists the changes in the report, and answers how many they are: refusals 1, 2 and 23.
-#[tactic(auto, unfolding(crate::specs::Report::mend, crate::specs::Report::table_after, crate::specs::Report::report_after))]
+#[tactic(auto, unfolding(crate::specs::Report::mend, crate::specs::Report::mended_after, crate::specs::Report::report_after))]
 pub fn mend(wiring: Wiring, n: usize, table: &mut [u8], report: &mut [u8]) -> Result<usize, Refusal>
     ensures number_of_changes { result ≡ mend wiring n table.old (length report.old) }
-    ensures mended_table { table.new ≡ table_after wiring n table.old (length report.old) }
+    ensures mended_table { table.new ≡ mended_after wiring n table.old (length report.old) }
     ensures listed_changes { report.new ≡ report_after wiring n table.old report.old }
 {
-    let lent = Table::of(n, table)?;
+    let lent = Table::of(wiring, n, table)?;
     if report.len() / 4 < lent.bytes.len() {
         return Err(Refusal::ReportTooShort);
     }
@@ -44,14 +44,22 @@ fn mend_checked(wiring: Wiring, n: u8, table: &mut [u8], report: &mut [u8]) -> u
     ensures listed_changes { let changes = mends wiring n table.old in
         report.new ≡ report_of changes (length report.old) }
 {
-    let over = lines::is_over(wiring, &Table { n, bytes: table });
-    let mut mending = Mending {
+    let end = wiring.end_byte(n);
+    let over = lines::is_over(&Table {
+        wiring,
         n,
+        end,
+        bytes: table,
+    });
+    let mut mending = Mending {
+        wiring,
+        n,
+        end,
         table,
         report,
         changes: 0,
     };
-    mending.mend_lines(wiring, over);
+    mending.mend_lines(over);
     mending.clear_rest();
     mending.changes
 }

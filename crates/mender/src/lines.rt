@@ -7,18 +7,17 @@ ghost use Rattle.mender.specs.Mended.{mended_status, keeps_pass, mended_told_by,
 
 use table::lent::Table;
 use table::status::Status;
-use table::wiring::Wiring;
 use table::{Station, cells, rules};
 
 // Whether the round is over once each line is mended: then refusal 4 would still apply. The loop of `Table::is_round_over`.
 #[tactic(auto, using(lists::proofs::Loops::loops, table::proofs::Accepting::rounds))]
-pub(crate) fn is_over(wiring: Wiring, table: &Table) -> bool
+pub(crate) fn is_over(table: &Table) -> bool
     ensures { let n = table.now.n in
-        result ≡ round_over n (lines_mended wiring n table.now.bytes.now) }
+        result ≡ round_over n (lines_mended table.now.wiring n table.now.bytes.now) }
 {
     let mut some = false;
     for i in 0..table.n {
-        if !finished_if_live(wiring, table, Station(i)) {
+        if !finished_if_live(table, Station(i)) {
             return false;
         }
         some |= table.is_live(Station(i));
@@ -27,44 +26,44 @@ pub(crate) fn is_over(wiring: Wiring, table: &Table) -> bool
 }
 
 // Whether station i, if it is live, has finished its pass once its line is mended.
-fn finished_if_live(wiring: Wiring, table: &Table, i: Station) -> bool
+fn finished_if_live(table: &Table, i: Station) -> bool
     requires { i.0 < table.now.n }
     ensures { let n = table.now.n in
-        result ≡ finished_if_live n (lines_mended wiring n table.now.bytes.now) i.0 }
+        result ≡ finished_if_live n (lines_mended table.now.wiring n table.now.bytes.now) i.0 }
 {
-    !table.is_live(i) | (table.is_finished(i) & keeps_pass(wiring, table, i))
+    !table.is_live(i) | (table.is_finished(i) & keeps_pass(table, i))
 }
 
 // Whether bytes 1 to 3 of line i keep their rules.
-fn keeps_pass(wiring: Wiring, table: &Table, i: Station) -> bool
+fn keeps_pass(table: &Table, i: Station) -> bool
     requires { i.0 < table.now.n }
-    ensures { result ≡ keeps_pass wiring table.now.n table.now.bytes.now i.0 }
+    ensures { result ≡ keeps_pass table.now.wiring table.now.n table.now.bytes.now i.0 }
 {
     let next = table.get(i, cells::NEXT);
     let finished = table.get(i, cells::FINISHED);
     let tests = table.get(i, cells::TESTS);
-    rules::pass_rule(wiring.end_distance(table.n), next, finished, tests)
+    rules::pass_rule(table.end, next, finished, tests)
 }
 
 // Bytes 0 to 5 of line i, mended.
-pub(crate) fn mended_head(wiring: Wiring, table: &Table, i: Station, over: bool) -> [u8; 6]
+pub(crate) fn mended_head(table: &Table, i: Station, over: bool) -> [u8; 6]
     requires { i.0 < table.now.n }
-    ensures { result ≡ list_of (mended_byte wiring table.now.n table.now.bytes.now over i.0) 6 }
+    ensures { result ≡ list_of (mended_byte table.now.wiring table.now.n table.now.bytes.now over i.0) 6 }
 {
     let status = mended_status(table.get(i, cells::STATUS));
     let by = mended_told_by(table.n, i, status, table.get(i, cells::TOLD_BY));
     let ago = mended_rounds_ago(table.n, i, status, by, table.get(i, cells::ROUNDS_AGO));
-    let [next, finished, tests] = mended_pass(wiring, table, i, over);
+    let [next, finished, tests] = mended_pass(table, i, over);
     [u8::from(status), next, finished, tests, by, ago]
 }
 
 // Bytes 1 to 3 of line i, mended: 1, 0, 0 if the round is over or they break a rule.
-fn mended_pass(wiring: Wiring, table: &Table, i: Station, over: bool) -> [u8; 3]
+fn mended_pass(table: &Table, i: Station, over: bool) -> [u8; 3]
     requires { i.0 < table.now.n }
-    ensures { let byte = mended_byte wiring table.now.n table.now.bytes.now over i.0 in
+    ensures { let byte = mended_byte table.now.wiring table.now.n table.now.bytes.now over i.0 in
         result ≡ byte 1 ∷ byte 2 ∷ byte 3 ∷ [] }
 {
-    if over | !keeps_pass(wiring, table, i) {
+    if over | !keeps_pass(table, i) {
         return [1, 0, 0];
     }
     [

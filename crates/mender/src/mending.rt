@@ -1,6 +1,7 @@
 // A table on its way from what was lent to what is mended, with the report of what was changed so far.
 ghost use Rattle.std.specs.Prelude.{◌≡◌, ◌+◌, ◌*◌, ◌<◌, ◌≤◌, true, length};
 ghost use Rattle.table.specs.Sizes.{is_size};
+ghost use Rattle.table.specs.Wiring.{end_distance};
 ghost use Rattle.table.specs.Table.{table_length};
 
 use crate::lines;
@@ -12,11 +13,14 @@ use table::{Station, cells};
 // A lent table and a lent report that has room for a change of each byte, and how many changes the report has so far.
 #[derive(Drop)]
 pub(crate) struct Mending<'a> {
+    pub wiring: Wiring,
     pub n: u8,
+    pub end: u8,
     pub table: &'a mut [u8],
     pub report: &'a mut [u8],
     pub changes: usize,
     ghost sized: { is_size n ≡ true },
+    ghost last_of_pass: { end ≡ end_distance wiring n },
     ghost fits: { length table.now ≡ table_length n },
     ghost room: { 4 * table_length n ≤ length report.now },
     ghost few: { changes ≤ table_length n },
@@ -31,11 +35,14 @@ impl<'a> Mending<'a> {
 
     // The table, to be read.
     fn read(&self) -> Table<'_>
+        ensures same_wiring { result.wiring ≡ self.now.wiring }
         ensures same_size { result.n ≡ self.now.n }
         ensures same_bytes { result.bytes.now ≡ self.now.table.now }
     {
         Table {
+            wiring: self.wiring,
             n: self.n,
+            end: self.end,
             bytes: &*self.table,
         }
     }
@@ -75,11 +82,11 @@ impl<'a> Mending<'a> {
     }
 
     // Puts each byte of the table, by rising offset.
-    pub fn mend_lines(&mut self, wiring: Wiring, over: bool)
+    pub fn mend_lines(&mut self, over: bool)
         requires { self.old.changes ≡ 0 }
         ensures same_mending { IsSameMending self.old self.new }
         ensures bytes_mended { self.new.table.now
-            ≡ table_of self.old.n (mended_byte wiring self.old.n self.old.table.now over) }
+            ≡ table_of self.old.n (mended_byte self.old.wiring self.old.n self.old.table.now over) }
         ensures changes_listed { let listed = changes self.old.table.now self.new.table.now in
             self.new.report.now ≡ sets self.old.report.now 0 (flat_map change_bytes listed) }
         ensures changes_counted { self.new.changes
@@ -88,7 +95,7 @@ impl<'a> Mending<'a> {
         let n = self.n;
         for i in 0..n {
             let line = cells::line_start(n, Station(i));
-            let head = lines::mended_head(wiring, &self.read(), Station(i), over);
+            let head = lines::mended_head(&self.read(), Station(i), over);
             for (c, byte) in head.iter().enumerate() {
                 self.put(line + c, *byte);
             }

@@ -30,8 +30,8 @@ stop_refusal None = 0
 stop_refusal (Some r) = number_of r
 
 -- the outcome of a call: what it answers, and table and sheet as it left them
-abbrev pub outcome_with : Ran → List ℕ → List ℕ → RunResult
-outcome_with r t sheet = record { stopped = r.stopped; taken = r.taken; state = state_with t r.tally; sheet = sheet }
+abbrev pub run_result : Ran → List ℕ → List ℕ → RunResult
+run_result r t sheet = record { stopped = r.stopped; taken = r.taken; state = state_with t r.tally; sheet = sheet }
 
 -- the sheet with a line written as the kth, from 0, of four bytes each
 abbrev pub write_line : List ℕ → ℕ → List ℕ → List ℕ

@@ -11,7 +11,6 @@ use crate::kind::Kind;
 use crate::{Tally, rounds, steps};
 use lists::refusal::Refusal;
 use station::outcome::Outcome;
-use station::wired::Wired;
 use table::lent::{Table, TableMut};
 use table::status::Status;
 use table::{Station, cells};
@@ -66,30 +65,31 @@ pub(crate) fn check_entry(
 // An entry that is not refused: what it does, and its line of the run sheet. The answer is the tally after it.
 // Table and tally stay two parameters: the tally is a value that each entry answers anew, and a struct of both would be taken apart there.
 pub(crate) fn take_entry(
-    wired: Wired,
     table: &mut TableMut,
     tally: Tally,
     entry: Entry,
     line: &mut [u8],
 ) -> Tally
-    requires same_size { wired.n ≡ table.old.n }
-    requires table_obeys { table_check wired.wiring table.old.n table.old.bytes.now ≡ Ok tt }
+    requires table_obeys { table_check table.old.wiring table.old.n table.old.bytes.now ≡ Ok tt }
     requires entry_taken { entry_check table.old.n
         (state_with table.old.bytes.now tally) (entry_known entry) ≡ Ok tt }
     requires line_length { length line.old ≡ 4 }
     ensures same_loan { IsSameLoan table.old table.new }
     ensures state_after { state_with table.new.bytes.now result
-        ≡ after wired.wiring table.old.n (state_with table.old.bytes.now tally) (entry_known entry) }
+        ≡ after table.old.wiring table.old.n (state_with table.old.bytes.now tally) (entry_known entry) }
     ensures line_after { line.new
-        ≡ sheet_line wired.wiring table.old.n (state_with table.old.bytes.now tally) (entry_known entry) }
+        ≡ sheet_line table.old.wiring table.old.n (state_with table.old.bytes.now tally) (entry_known entry) }
 {
     let station = entry.station;
-    let done = act(wired, table, entry);
+    let done = act(table, entry);
     let tested = done.tested_byte();
     let outcome = done.outcome_byte();
     let over = rounds::close_round(table, station);
     let status = table.read().get(station, cells::STATUS);
-    line.copy_from_slice(&[station.0, tested, outcome, status]);
+    line[0] = station.0;
+    line[1] = tested;
+    line[2] = outcome;
+    line[3] = status;
     Tally {
         rounds: tally.rounds + u32::from(over),
         tests: tally.tests + u32::from(made_test(done)),
@@ -105,21 +105,20 @@ fn made_test(done: Outcome) -> bool
 
 // A crash or a turn, before the round is looked at.
 #[tactic(auto, unfolding(crate::specs::Entry::acted, crate::specs::Entry::tested_of, crate::specs::Entry::outcome_of, crate::specs::Turn::crash))]
-fn act(wired: Wired, table: &mut TableMut, entry: Entry) -> Outcome
-    requires same_size { wired.n ≡ table.old.n }
-    requires table_obeys { table_check wired.wiring table.old.n table.old.bytes.now ≡ Ok tt }
+fn act(table: &mut TableMut, entry: Entry) -> Outcome
+    requires table_obeys { table_check table.old.wiring table.old.n table.old.bytes.now ≡ Ok tt }
     requires station_below { entry.station.0 < table.old.n }
     ensures tested_station { tested_byte result
-        ≡ tested_of wired.wiring table.old.n table.old.bytes.now (entry_known entry) }
+        ≡ tested_of table.old.wiring table.old.n table.old.bytes.now (entry_known entry) }
     ensures outcome_number { outcome_byte result
-        ≡ outcome_of wired.wiring table.old.n table.old.bytes.now (entry_known entry) }
+        ≡ outcome_of table.old.wiring table.old.n table.old.bytes.now (entry_known entry) }
     ensures same_loan { IsSameLoan table.old table.new }
     ensures entry_acted { table.new.bytes.now
-        ≡ acted wired.wiring table.old.n table.old.bytes.now (entry_known entry) }
+        ≡ acted table.old.wiring table.old.n table.old.bytes.now (entry_known entry) }
 {
     if entry.kind == Kind::Crash {
         table.set_status(entry.station, Status::Crashed);
         return Outcome::Crashed;
     }
-    steps::take_turn(wired, table, entry.kind, entry.station)
+    steps::take_turn(table, entry.kind, entry.station)
 }

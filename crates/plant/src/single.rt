@@ -11,22 +11,21 @@ use crate::kind::Kind;
 use crate::{Tally, run};
 use table::Station;
 use table::lent::TableMut;
-use table::wiring::Wiring;
 
 // A turn of kind 1 of station i, with no line of a sheet: the rest of a run that has this one entry. The answer is the tally after it.
-pub fn take_turn(wiring: Wiring, table: &mut TableMut, tally: Tally, i: Station) -> Tally
-    requires table_obeys { table_check wiring table.old.n table.old.bytes.now ≡ Ok tt }
+pub fn take_turn(table: &mut TableMut, tally: Tally, i: Station) -> Tally
+    requires table_obeys { table_check table.old.wiring table.old.n table.old.bytes.now ≡ Ok tt }
     requires turn_taken { entry_check table.old.n
         (state_with table.old.bytes.now tally) (entry_of kind_turn i.0) ≡ Ok tt }
     ensures same_loan { IsSameLoan table.old table.new }
     ensures state_after { state_with table.new.bytes.now result
-        ≡ after wiring table.old.n (state_with table.old.bytes.now tally) (entry_of kind_turn i.0) }
+        ≡ after table.old.wiring table.old.n (state_with table.old.bytes.now tally) (entry_of kind_turn i.0) }
 {
     let entry = Entry {
         kind: Kind::Turn,
         station: i,
     };
     let mut line = [0u8; 4];
-    let ran = run::go_on(wiring, table, tally, &entry.bytes(), &mut line);
+    let ran = run::go_on(table, tally, &entry.bytes(), &mut line);
     ran.tally
 }

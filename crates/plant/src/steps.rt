@@ -21,68 +21,65 @@ use table::{Distance, Station, cells};
 
 // The turn of station i. That the table obeys the rules is a `requires`, here and in the callers, and no ghost field of the table: after the turn
 // that ends a round, until it is closed, the table breaks rule Round not over, and between two writes to a line not even the line rules hold.
-pub(crate) fn take_turn(wired: Wired, table: &mut TableMut, kind: Kind, i: Station) -> Outcome
-    requires same_size { wired.n ≡ table.old.n }
-    requires table_obeys { table_check wired.wiring table.old.n table.old.bytes.now ≡ Ok tt }
+pub(crate) fn take_turn(table: &mut TableMut, kind: Kind, i: Station) -> Outcome
+    requires table_obeys { table_check table.old.wiring table.old.n table.old.bytes.now ≡ Ok tt }
     requires station_below { i.0 < table.old.n }
     ensures tested_station { tested_byte result
-        ≡ turn_tested wired.wiring table.old.n table.old.bytes.now i.0 }
+        ≡ turn_tested table.old.wiring table.old.n table.old.bytes.now i.0 }
     ensures outcome_number { outcome_byte result
-        ≡ turn_outcome wired.wiring table.old.n table.old.bytes.now (kind_byte kind) i.0 }
+        ≡ turn_outcome table.old.wiring table.old.n table.old.bytes.now (kind_byte kind) i.0 }
     ensures same_loan { IsSameLoan table.old table.new }
     ensures turn_made { table.new.bytes.now
-        ≡ turn wired.wiring table.old.n table.old.bytes.now (kind_byte kind) i.0 }
+        ≡ turn table.old.wiring table.old.n table.old.bytes.now (kind_byte kind) i.0 }
 {
-    let m = next_test(wired, &table.read(), i);
-    if wired.end <= m.0 {
-        finish_pass(wired, table, i);
+    let m = next_test(&table.read(), i);
+    if table.end <= m.0 {
+        finish_pass(table, i);
         return Outcome::PassFinished;
     }
-    make_test(wired, table, kind, i, m)
+    make_test(table, kind, i, m)
 }
 
 // The next test: the least distance to test at that is not below the next one; the end distance where there is none.
 #[tactic(auto, unfolding(crate::specs::Turn::next_test))]
-fn next_test(wired: Wired, table: &Table, i: Station) -> Distance
-    requires same_size { wired.n ≡ table.now.n }
-    requires station_below { i.0 < table.now.n }
-    ensures { result.0 ≡ next_test wired.wiring table.now.n table.now.bytes.now i.0 }
+fn next_test(table: &Table, i: Station) -> Distance
+    requires { i.0 < table.now.n }
+    ensures { result.0 ≡ next_test table.now.wiring table.now.n table.now.bytes.now i.0 }
 {
-    wired.next_due(table.row(i), i, table.next_distance(i))
+    Wired::of(table).next_due(table.row(i), i, table.next_distance(i))
 }
 
 // The end of a pass: there is no next test.
 #[tactic(auto, unfolding(crate::specs::Turn::finish_pass))]
-fn finish_pass(wired: Wired, table: &mut TableMut, i: Station)
-    requires same_size { wired.n ≡ table.old.n }
-    requires station_below { i.0 < table.old.n }
+fn finish_pass(table: &mut TableMut, i: Station)
+    requires { i.0 < table.old.n }
     ensures same_loan { IsSameLoan table.old table.new }
     ensures pass_finished { table.new.bytes.now
-        ≡ finish_pass wired.wiring table.old.n table.old.bytes.now i.0 }
+        ≡ finish_pass table.old.wiring table.old.n table.old.bytes.now i.0 }
 {
-    table.put(i, cells::NEXT, wired.end);
+    table.put(i, cells::NEXT, table.end);
     table.put(i, cells::FINISHED, 1);
 }
 
 // Station i tests the station at distance m: the test is counted by its outcome, takes effect, and i leaves if it is alone.
-fn make_test(wired: Wired, table: &mut TableMut, kind: Kind, i: Station, m: Distance) -> Outcome
-    requires same_size { wired.n ≡ table.old.n }
-    requires table_obeys { table_check wired.wiring table.old.n table.old.bytes.now ≡ Ok tt }
+fn make_test(table: &mut TableMut, kind: Kind, i: Station, m: Distance) -> Outcome
+    requires table_obeys { table_check table.old.wiring table.old.n table.old.bytes.now ≡ Ok tt }
     requires tester_below { i.0 < table.old.n }
     requires distance_above_0 { 0 < m.0 }
-    requires distance_below { m.0 < wired.end }
-    requires tested_below { wired_station wired.wiring table.old.n i.0 m.0 < table.old.n }
+    requires distance_below { m.0 < table.old.end }
+    requires tested_below { wired_station table.old.wiring table.old.n i.0 m.0 < table.old.n }
     ensures tested_station { tested_byte result
-        ≡ wired_station wired.wiring table.old.n i.0 m.0 }
+        ≡ wired_station table.old.wiring table.old.n i.0 m.0 }
     ensures outcome_number { outcome_byte result
-        ≡ outcome_at wired.wiring table.old.n table.old.bytes.now (kind_byte kind) i.0 m.0 }
+        ≡ outcome_at table.old.wiring table.old.n table.old.bytes.now (kind_byte kind) i.0 m.0 }
     ensures same_loan { IsSameLoan table.old table.new }
     ensures test_made { table.new.bytes.now
-        ≡ testing wired.wiring table.old.n table.old.bytes.now (kind_byte kind) i.0 m.0 }
+        ≡ testing table.old.wiring table.old.n table.old.bytes.now (kind_byte kind) i.0 m.0 }
 {
-    let j = wired.station_at(i, m);
-    let outcome = test_outcome(&table.read(), kind, i, j);
-    count_test(wired, table, i, m, outcome);
+    let lent = table.read();
+    let j = Wired::of(&lent).station_at(i, m);
+    let outcome = test_outcome(&lent, kind, i, j);
+    count_test(table, i, m, outcome);
     apply_outcome(table, i, outcome);
     leave_if_alone(table, i);
     outcome
@@ -90,17 +87,17 @@ fn make_test(wired: Wired, table: &mut TableMut, kind: Kind, i: Station, m: Dist
 
 // Counts the test by its outcome: next distance and tests made of i.
 #[tactic(auto, unfolding(crate::specs::Turn::count_test))]
-fn count_test(wired: Wired, table: &mut TableMut, i: Station, m: Distance, outcome: Outcome)
-    requires same_size { wired.n ≡ table.old.n }
+fn count_test(table: &mut TableMut, i: Station, m: Distance, outcome: Outcome)
     requires line { i.0 < table.old.n }
     requires distance_fits { m.0 < 255 }
     requires tests_fit { tests_made table.old.n table.old.bytes.now i.0 < 255 }
     ensures same_loan { IsSameLoan table.old table.new }
     ensures test_counted { table.new.bytes.now
-        ≡ count_test wired.wiring table.old.n table.old.bytes.now i.0 m.0 (outcome_byte outcome) }
+        ≡ count_test table.old.wiring table.old.n table.old.bytes.now i.0 m.0 (outcome_byte outcome) }
 {
-    let tests = table.read().get(i, cells::TESTS);
-    let next = wired.next_after(m, outcome);
+    let lent = table.read();
+    let tests = lent.get(i, cells::TESTS);
+    let next = Wired::of(&lent).next_after(m, outcome);
     table.put(i, cells::NEXT, next);
     table.put(i, cells::TESTS, tests + 1);
 }
@@ -193,7 +190,7 @@ fn exchange_rows(table: &mut TableMut, i: Station, j: Station)
     let lent = table.read();
     let first = lent.row(i);
     let second = lent.row(j);
-    if bytes::same_bytes(first, second) {
+    if words::same_bytes(first, second) {
         return;
     }
     let mut both = [0u8; 64];

@@ -4,6 +4,7 @@ use mathlib.Core.Path.{◌≡◌, refl, sym, ◌∙◌}
 use mathlib.Core.Bool.{Bool, true, false, not, ◌&&◌}
 use mathlib.Core.List.{List}
 use Rattle.std.specs.Prelude.{Ok, Err}
+use Rattle.std.specs.Result.{is_ok}
 use Prim.Native.Nat.{ℕ}
 use native.Mathlib.Omega.{arith}
 use borrow.Author.Tests.{eq-eqb, ne_eqb, not-true}
@@ -12,10 +13,10 @@ use lib.ListN.{length, take, drop, length-drop}
 use lib.Seq.{length-take-le}
 use Rattle.lists.specs.declared.refusal.Refusal.{Refusal}
 use Rattle.lists.specs.declared.refusal.Refusal.TheVariants.{TableLength, FieldPastEnd, LineField, FieldOrder, ListLength}
-use Rattle.lists.specs.Refusal.{Check, ensure, ◌and◌, number_of, number_of_result}
+use Rattle.lists.specs.Refusal.{Check, ensure, ◌and◌}
 use Rattle.lists.proofs.BoolLaws.{by_bool}
 use Rattle.lists.proofs.SearchLaws.{both}
-use Rattle.lists.proofs.RefusalLaws.{number_nonzero, check_zero, ensure_ok, and_ok}
+use Rattle.lists.proofs.RefusalLaws.{ensure_ok, and_ok}
 use Rattle.table.specs.Sizes.{is_size}
 use Rattle.table.specs.Table.{table_length}
 use Rattle.table.specs.Rules.{table_check}
@@ -38,17 +39,13 @@ use Rattle.saved.proofs.Edition1Laws.{length-converted, rules-converted, length-
 use Rattle.saved.proofs.Restored.{load-restores}
 use Rattle.saved.proofs.OneForm.{first-are-bytes, take-bytes, drop-bytes}
 
--- whether a check refuses nothing, by its number
-abbrev accepts : Check → Bool
-accepts c = eqb (number_of_result c) 0
+ok-and : (a b : Check) → is_ok (a and b) ≡ (is_ok a && is_ok b)
+ok-and (Ok x) b = refl
+ok-and (Err r) b = refl
 
-accepts-and : (a b : Check) → accepts (a and b) ≡ (accepts a && accepts b)
-accepts-and (Ok x) b = refl
-accepts-and (Err r) b = rw (ne_eqb (number_of r) 0 (number_nonzero r))
-
-accepts-ensure : (b : Bool) (r : Refusal) → accepts (ensure b r) ≡ b
-accepts-ensure true r = refl
-accepts-ensure false r = ne_eqb (number_of r) 0 (number_nonzero r)
+ok-ensure : (b : Bool) (r : Refusal) → is_ok (ensure b r) ≡ b
+ok-ensure true r = refl
+ok-ensure false r = refl
 
 -- the same tests in another order, where the lines are right, and where they are not
 reordered : (p k q r : Bool) → ((p && (k && q)) && (r && true)) ≡ ((p && (q && r)) && k)
@@ -79,28 +76,28 @@ converter-takes file t b long wide =
     let old_rules : Check = rules_check n (table_in n cs) in
     let same : Bool = eqb (length b) (length (saved n (converted_table n (table_in n cs)) (file_tally file))) in
     let old_same : Bool = eqb (length t) (old_table_length n) in
-    let left : accepts (convert_check file (length b)) ≡ ((whole && (known && accepts plant)) && ((lines && accepts old_rules) && same)) =
+    let left : is_ok (convert_check file (length b)) ≡ ((whole && (known && is_ok plant)) && ((lines && is_ok old_rules) && same)) =
     rw (
-      accepts-and ((ensure whole FieldPastEnd) and (ensure known FieldOrder) and plant)
+      ok-and ((ensure whole FieldPastEnd) and (ensure known FieldOrder) and plant)
           ((ensure lines LineField and old_rules) and ensure same ListLength),
-      accepts-and (ensure whole FieldPastEnd) (ensure known FieldOrder and plant),
-      accepts-and (ensure known FieldOrder) plant,
-      accepts-and (ensure lines LineField and old_rules) (ensure same ListLength),
-      accepts-and (ensure lines LineField) old_rules,
-      accepts-ensure whole FieldPastEnd,
-      accepts-ensure known FieldOrder,
-      accepts-ensure lines LineField,
-      accepts-ensure same ListLength,
+      ok-and (ensure whole FieldPastEnd) (ensure known FieldOrder and plant),
+      ok-and (ensure known FieldOrder) plant,
+      ok-and (ensure lines LineField and old_rules) (ensure same ListLength),
+      ok-and (ensure lines LineField) old_rules,
+      ok-ensure whole FieldPastEnd,
+      ok-ensure known FieldOrder,
+      ok-ensure lines LineField,
+      ok-ensure same ListLength,
     ) in
-    let right : accepts (reader_check file (length t)) ≡ (whole && (accepts plant && (lines && (old_same && accepts old_rules)))) =
+    let right : is_ok (reader_check file (length t)) ≡ (whole && (is_ok plant && (lines && (old_same && is_ok old_rules)))) =
     rw (
-      accepts-and (ensure whole FieldPastEnd) (plant and ensure lines LineField and ensure old_same TableLength and old_rules),
-      accepts-and plant (ensure lines LineField and ensure old_same TableLength and old_rules),
-      accepts-and (ensure lines LineField) (ensure old_same TableLength and old_rules),
-      accepts-and (ensure old_same TableLength) old_rules,
-      accepts-ensure whole FieldPastEnd,
-      accepts-ensure lines LineField,
-      accepts-ensure old_same TableLength,
+      ok-and (ensure whole FieldPastEnd) (plant and ensure lines LineField and ensure old_same TableLength and old_rules),
+      ok-and plant (ensure lines LineField and ensure old_same TableLength and old_rules),
+      ok-and (ensure lines LineField) (ensure old_same TableLength and old_rules),
+      ok-and (ensure old_same TableLength) old_rules,
+      ok-ensure whole FieldPastEnd,
+      ok-ensure lines LineField,
+      ok-ensure old_same TableLength,
     ) in
     left
     ∙ by_bool lines
@@ -108,8 +105,8 @@ converter-takes file t b long wide =
     length-saved n (converted_table n (table_in n cs)) (length-converted n (table_in n cs) (length-in n cs h)) (file_tally file) in
     let s : same ≡ true = eq-eqb (length b) (length (saved n (converted_table n (table_in n cs)) (file_tally file))) (wide ∙ sym c) in
     let o : old_same ≡ true = eq-eqb (length t) (old_table_length n) long in
-    rw (right, h, s, o) (reordered whole known (accepts plant) (accepts old_rules)))
-    (λ h. rw (right, h) (neither_takes whole known (accepts plant)))
+    rw (right, h, s, o) (reordered whole known (is_ok plant) (is_ok old_rules)))
+    (λ h. rw (right, h) (neither_takes whole known (is_ok plant)))
 
 -- a file that is converted
 record Taken (file : List ℕ) : Type 0 where
@@ -169,11 +166,10 @@ module _ (file : List ℕ) (small : AreBytes file) (k : Taken file) where
 pub converted-loads : ConvertedLoads
 unfolding convert_after converted reader_answer reader_after
 converted-loads file b t t' small z long wide =
-    let c = check_zero (convert_check file (length b)) z in
-    let k = taken file (length b) c in
+    let k = taken file (length b) z in
     let n : ℕ = file_size file in
     let C : List ℕ = converted_table n (file_table file) in
     let r = reader-takes file small k t long in
     let l = table-long file small k in
     let s = load-restores n C (file_tally file) t' (table-sound file small k) (is_tally file small k) (wide ∙ sym l) in
-    (rw (c, r) s.1, rw (c, r) s.2)
+    (rw (z, r) s.1, rw (z, r) s.2)

@@ -9,7 +9,7 @@ use borrow.Author.Tests.{not-true}
 use lib.ListN.{length}
 use Rattle.lists.specs.declared.refusal.Refusal.{Refusal}
 use Rattle.lists.specs.declared.refusal.Refusal.TheVariants.{LineField, FieldOrder}
-use Rattle.lists.specs.Refusal.{Check, ensure, ◌and◌, number_of_result}
+use Rattle.lists.specs.Refusal.{Check, ensure, ◌and◌}
 use Rattle.lists.proofs.RefusalLaws.{ensure_ok, and_ok}
 use Rattle.table.specs.Sizes.{is_size}
 use Rattle.table.specs.Rules.{table_check}
@@ -20,11 +20,10 @@ use Rattle.saved.specs.Load.{file_size, file_lines, file_table, loaded_of}
 use Rattle.saved.specs.Save.{saved_length, save_check, save_after}
 use Rattle.saved.specs.Edition1.{line_field_length, rules_check, converted_table}
 use Rattle.saved.specs.Convert.{all_known, old_check, old_lines_check, converted, convert_check, convert_after, converted_length}
-use Rattle.saved.specs.Convert.{converted_length_refusal}
 use Rattle.saved.specs.Reading.{opened, table_read}
 use Rattle.saved.specs.declared.Loaded.{Loaded}
 use Rattle.saved.specs.declared.edition.Edition.TheVariants.{One}
-use Rattle.saved.proofs.Loading.{checks_joined, answer_ok, answer_err, answer_number}
+use Rattle.saved.proofs.Loading.{checks_joined, answer_ok, answer_err}
 use Rattle.saved.proofs.Edition1Laws.{rules-converted, length-in, read-converted}
 
 opened_one : (file : List ℕ) → opened One file ≡ (old_check file and Ok (loaded_of (fields_of file)))
@@ -39,10 +38,6 @@ length_err file r e = rw (answer_err (old_check file) _ r (e ∙ opened_one file
 pub length_ok : (file : List ℕ) (x : Loaded) → Ok x ≡ opened One file → Ok (saved_length x.size) ≡ converted_length file
 unfolding converted_length
 length_ok file x e = let p = answer_ok (old_check file) _ x (e ∙ opened_one file) in rw (p.0, p.1)
-
-pub length_numbered : (file : List ℕ) → converted_length_refusal file ≡ number_of_result (converted_length file)
-unfolding converted_length
-length_numbered file = answer_number (old_check file) (saved_length (file_size file))
 
 -- what a call answers and leaves
 module _ (file b : List ℕ) where

@@ -11,7 +11,7 @@ use borrow.Author.Tests.{not-true, eq-eqb, ne_eqb}
 use lib.ListN.{length}
 use Rattle.lists.specs.declared.refusal.Refusal.{Refusal}
 use Rattle.lists.specs.declared.refusal.Refusal.TheVariants.{TableLength, LineField}
-use Rattle.lists.specs.Refusal.{Check, ensure, ◌and◌, number_of_result}
+use Rattle.lists.specs.Refusal.{Check, ensure, ◌and◌}
 use Rattle.lists.proofs.RefusalLaws.{ensure_ok, and_ok}
 use Rattle.table.specs.Sizes.{is_size}
 use Rattle.table.specs.Table.{stride, table_length, greatest_table}
@@ -21,7 +21,7 @@ use Rattle.table.specs.declared.wiring.Wiring.TheVariants.{Cube}
 use Rattle.saved.specs.Fields.{runs_past, fields_of}
 use Rattle.saved.specs.Plant.{plant_check, line_field_length, lines_right, table_in}
 use Rattle.saved.specs.Order.{order_check}
-use Rattle.saved.specs.Load.{file_size, file_lines, size_check, rest_check, rest_after, load_check, size_refusal, load_refusal, saved_size}
+use Rattle.saved.specs.Load.{file_size, file_lines, size_check, rest_check, rest_after, load_check, saved_size}
 use Rattle.saved.specs.Load.{loaded_of, load_answer, load_after}
 use Rattle.saved.specs.Reading.{opened, table_read}
 use Rattle.saved.specs.declared.edition.Edition.TheVariants.{Two}
@@ -54,19 +54,6 @@ checks_joined (Err r) b c x = refl
 opened_two : (file : List ℕ) → opened Two file ≡ (size_check file and Ok (loaded_of (fields_of file)))
 unfolding opened size_check
 opened_two file = checks_joined _ (order_check (fields_of file)) _ _
-
--- the numbers of the answers are those of the checks
-pub answer_number : {A : Type 0} (c : Check) (v : A) → number_of_result c ≡ number_of_result {A = A} (c and Ok v)
-answer_number (Ok u) v = refl
-answer_number (Err r) v = refl
-
-pub load_numbered : (file : List ℕ) (len : ℕ) → load_refusal file len ≡ number_of_result (load_answer file len)
-unfolding load_answer
-load_numbered file len = answer_number (load_check file len) (loaded_of (fields_of file))
-
-pub size_numbered : (file : List ℕ) → size_refusal file ≡ number_of_result (saved_size file)
-unfolding saved_size
-size_numbered file = answer_number (size_check file) (file_size file)
 
 -- a file whose size is refused, and one whose size is not
 pub size_err : (file : List ℕ) (r : Refusal) → Err r ≡ opened Two file → Err r ≡ saved_size file

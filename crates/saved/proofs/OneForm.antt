@@ -15,7 +15,7 @@ use lib.ListN.{length, get_or, take, drop, length-drop, take-append-drop}
 use lib.Seq.{length-take-le, get_or-drop}
 use Rattle.lists.proofs.BoolLaws.{by_bool}
 use Rattle.lists.proofs.SearchLaws.{both}
-use Rattle.lists.proofs.RefusalLaws.{check_zero, ensure_ok, and_ok}
+use Rattle.lists.proofs.RefusalLaws.{ensure_ok, and_ok}
 use Rattle.table.specs.Table.{stride, line_start}
 use Rattle.table.specs.Rules.{table_check}
 use Rattle.table.specs.declared.wiring.Wiring.TheVariants.{Cube}
@@ -404,10 +404,9 @@ answer-read file len e = rw e
 pub one-form : OneForm
 unfolding save_check save_after
 one-form file b b' small z long =
-    let c = check_zero (load_check file (length b)) z in
-    let o = opened file (length b) c in
+    let o = opened file (length b) z in
     let s = form file o small in
     let e : eqb (length b') (length (saved (file_size file) (file_table file) (file_tally file))) ≡ true = eq-eqb _ _ (long ∙ ap length (sym s)) in
-    let f = table-read file b c in
-    let r = answer-read file (length b) c in
+    let f = table-read file b z in
+    let r = answer-read file (length b) z in
     (rw (f, r, o.sound, e), rw (f, r, o.sound, e) s)

@@ -4,7 +4,7 @@ use Rattle.std.specs.Prelude.{ℕ, Bool, true, not, ◌&&◌, List, [], ◌∷�
 use Rattle.std.specs.Result.{result_unwrap_or}
 use Rattle.lists.specs.declared.refusal.Refusal.{Refusal}
 use Rattle.lists.specs.declared.refusal.Refusal.TheVariants.{FieldPastEnd, LineField, FieldOrder}
-use Rattle.lists.specs.Refusal.{Check, ensure, ◌and◌, number_of_result, unless_refused}
+use Rattle.lists.specs.Refusal.{Check, ensure, ◌and◌, unless_refused}
 use Rattle.table.specs.Rules.{length_check}
 use Rattle.saved.specs.Fields.{Field, runs_past, fields_of}
 use Rattle.saved.specs.Plant.{plant_check, lines_right, table_in}
@@ -36,9 +36,6 @@ unfoldable pub convert_check : List ℕ → ℕ → Check
 convert_check file len =
     old_check file and old_lines_check (file_size file) (file_lines file) and length_check (length (converted file)) len
 
-abbrev pub convert_refusal : List ℕ → ℕ → ℕ
-convert_refusal file len = number_of_result (convert_check file len)
-
 -- Rule Convert: the buffer after the call, given b
 unfoldable pub convert_after : List ℕ → List ℕ → List ℕ
 convert_after file b = unless_refused (convert_check file (length b)) b (converted file)
@@ -46,9 +43,6 @@ convert_after file b = unless_refused (convert_check file (length b)) b (convert
 -- Rule Converted length: the length of the buffer that the converter needs
 unfoldable pub converted_length : List ℕ → Result ℕ Refusal
 converted_length file = old_check file and Ok (saved_length (file_size file))
-
-abbrev pub converted_length_refusal : List ℕ → ℕ
-converted_length_refusal file = number_of_result (old_check file)
 
 -- rule Refused means untouched: a refused call answers 0
 abbrev pub length_figure : Result ℕ Refusal → ℕ

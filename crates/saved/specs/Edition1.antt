@@ -5,7 +5,7 @@ use Rattle.std.specs.Prelude.{ℕ, ◌+◌, ◌*◌, Bool, not, ◌&&◌, ◌||�
 use Rattle.std.specs.Prelude.{slice_index}
 use Rattle.lists.specs.declared.refusal.Refusal.{Refusal}
 use Rattle.lists.specs.declared.refusal.Refusal.TheVariants.{TableLength, LineRule, RoundNotClosed, FieldPastEnd, LineField}
-use Rattle.lists.specs.Refusal.{Check, ensure, ◌and◌, number_of_result, unless_refused}
+use Rattle.lists.specs.Refusal.{Check, ensure, ◌and◌, unless_refused}
 use Rattle.lists.specs.Search.{every}
 use Rattle.table.specs.Table.{status_column, next_column, finished_column, tests_column, status_told, told_by_none, not_recorded}
 use Rattle.table.specs.Wiring.{end_distance}
@@ -67,9 +67,6 @@ reader_check file len =
     ensure (not (runs_past file)) FieldPastEnd and plant_check (fields_of file)
     and ensure (lines_right (line_field_length (file_size file)) (file_size file) (file_lines file)) LineField
     and ensure (len == table_length (file_size file)) TableLength and rules_check (file_size file) (file_table file)
-
-abbrev pub reader_refusal : List ℕ → ℕ → ℕ
-reader_refusal file len = number_of_result (reader_check file len)
 
 unfoldable pub reader_answer : List ℕ → ℕ → Result Loaded Refusal
 reader_answer file len = reader_check file len and Ok (loaded_of (fields_of file))

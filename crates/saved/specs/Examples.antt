@@ -2,10 +2,11 @@
 -- files, what is converted of a file of edition 1, and the converter's number for some.
 -- Assumes nothing.
 use Rattle.std.specs.Prelude.{ℕ, ◌≡◌, Bool, true, ◌&&◌, List, [], ◌∷◌, ◌++◌, ◌==◌}
+use Rattle.lists.specs.Refusal.{number_of_result}
 use Rattle.table.specs.Fresh.{fresh_table}
-use Rattle.saved.specs.Load.{load_refusal}
+use Rattle.saved.specs.Load.{load_check}
 use Rattle.saved.specs.Save.{saved}
-use Rattle.saved.specs.Convert.{converted, convert_refusal}
+use Rattle.saved.specs.Convert.{converted, convert_check}
 
 -- fields: the opening, size 2, a tally of 0 and 0, the lines of two fresh boards
 abbrev opening : List ℕ
@@ -113,7 +114,7 @@ examples =
 -- all have that number
 unfoldable pub all_hold : List Example → Bool
 all_hold [] = true
-all_hold (e ∷ es) = load_refusal e.file e.len == e.number && all_hold es
+all_hold (e ∷ es) = number_of_result (load_check e.file e.len) == e.number && all_hold es
 
 abbrev pub ExamplesHold : Type 0
 ExamplesHold = all_hold examples ≡ true
@@ -177,7 +178,7 @@ old_examples =
 
 unfoldable pub all_old_hold : List Example → Bool
 all_old_hold [] = true
-all_old_hold (e ∷ es) = convert_refusal e.file e.len == e.number && all_old_hold es
+all_old_hold (e ∷ es) = number_of_result (convert_check e.file e.len) == e.number && all_old_hold es
 
 abbrev pub OldExamplesHold : Type 0
 OldExamplesHold = all_old_hold old_examples ≡ true

@@ -4,7 +4,7 @@ use Rattle.std.specs.Prelude.{ℕ, not, List, length, Result, Ok, ◌==◌}
 use Rattle.std.specs.Result.{result_unwrap_or}
 use Rattle.lists.specs.declared.refusal.Refusal.{Refusal}
 use Rattle.lists.specs.declared.refusal.Refusal.TheVariants.{TableLength, FieldPastEnd, LineField}
-use Rattle.lists.specs.Refusal.{Check, ensure, ◌and◌, number_of_result, unless_refused}
+use Rattle.lists.specs.Refusal.{Check, ensure, ◌and◌, unless_refused}
 use Rattle.table.specs.Table.{table_length}
 use Rattle.table.specs.Rules.{table_check}
 use Rattle.table.specs.declared.wiring.Wiring.TheVariants.{Cube}
@@ -40,13 +40,6 @@ rest_check n cs len =
 -- Rule Judged as a whole: all refusals of the reader
 unfoldable pub load_check : List ℕ → ℕ → Check
 load_check file len = size_check file and rest_check (file_size file) (file_lines file) len
-
--- their numbers
-abbrev pub size_refusal : List ℕ → ℕ
-size_refusal file = number_of_result (size_check file)
-
-abbrev pub load_refusal : List ℕ → ℕ → ℕ
-load_refusal file len = number_of_result (load_check file len)
 
 -- Rule Saved size: the size of a saved plant
 unfoldable pub saved_size : List ℕ → Result ℕ Refusal

@@ -4,8 +4,8 @@ use Rattle.std.specs.Prelude.{◌≡◌, ℕ, ◌^◌, ◌<◌, List, length, Ok
 use Rattle.table.specs.Rules.{table_check}
 use Rattle.table.specs.declared.wiring.Wiring.TheVariants.{Cube}
 use Rattle.plant.specs.declared.Tally.{Tally}
-use Rattle.saved.specs.Load.{load_refusal, saved_size, load_answer, loaded_figures, load_after}
-use Rattle.saved.specs.Save.{saved, saved_length, save_refusal, save_after}
+use Rattle.saved.specs.Load.{load_check, saved_size, load_answer, loaded_figures, load_after}
+use Rattle.saved.specs.Save.{saved, saved_length, save_check, save_after}
 use Rattle.saved.specs.Files.{AreBytes}
 
 abbrev pub SavedLength : Type 0
@@ -26,6 +26,6 @@ LoadRestores =
 -- what a file says is saved as that very file: of a file that was loaded into a buffer b, saved into any buffer b' of the file's length
 abbrev pub OneForm : Type 0
 OneForm =
-    (file b b' : List ℕ) → AreBytes file → load_refusal file (length b) ≡ 0 → length b' ≡ length file
+    (file b b' : List ℕ) → AreBytes file → load_check file (length b) ≡ Ok tt → length b' ≡ length file
     → let read = loaded_figures (load_answer file (length b)) in
-    (save_refusal read.size (load_after file b) read.tally (length b') ≡ 0) × (save_after read.size (load_after file b) read.tally b' ≡ file)
+    (save_check read.size (load_after file b) read.tally (length b') ≡ Ok tt) × (save_after read.size (load_after file b) read.tally b' ≡ file)

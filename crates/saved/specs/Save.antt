@@ -1,7 +1,7 @@
 -- The writer, for all inputs. Its refusals, in this order: 1 to 4; 13, if the buffer has not the saved plant's length.
 -- Assumes nothing.
 use Rattle.std.specs.Prelude.{ℕ, ◌+◌, ◌*◌, List, [], ◌∷◌, ◌++◌, length, take, drop}
-use Rattle.lists.specs.Refusal.{Check, ◌and◌, number_of_result, unless_refused}
+use Rattle.lists.specs.Refusal.{Check, ◌and◌, unless_refused}
 use Rattle.table.specs.Table.{stride, line_start}
 use Rattle.table.specs.Rules.{table_check, length_check}
 use Rattle.table.specs.declared.wiring.Wiring.TheVariants.{Cube}
@@ -43,9 +43,6 @@ saved_length n = 19 + n * (n + 10)
 
 unfoldable pub save_check : ℕ → List ℕ → Tally → ℕ → Check
 save_check n t tally len = table_check Cube n t and length_check (length (saved n t tally)) len
-
-abbrev pub save_refusal : ℕ → List ℕ → Tally → ℕ → ℕ
-save_refusal n t tally len = number_of_result (save_check n t tally len)
 
 -- Rule Save: the buffer after the call, given b
 unfoldable pub save_after : ℕ → List ℕ → Tally → List ℕ → List ℕ

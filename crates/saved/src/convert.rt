@@ -7,6 +7,7 @@ use crate::{first_pass, lines, save};
 use lists::refusal::Refusal;
 use table::cells;
 use table::lent::TableMut;
+use table::wiring::Wiring;
 
 // The length of the file of edition 2, or the refusal 18, 22, 19 or 1.
 pub fn converted_length(file: &[u8]) -> Result<usize, Refusal>
@@ -25,11 +26,14 @@ pub fn convert(file: &[u8], buffer: &mut [u8]) -> Result<(), Refusal>
     let opened = first_pass::open(file, Edition::One)?;
     let mut own = [0u8; cells::GREATEST_TABLE];
     let own = &mut own[..cells::table_length(opened.size)];
+    let end = Wiring::Cube.end_byte(opened.size);
     lines::build_table(
         file,
         Edition::One,
         &mut TableMut {
+            wiring: Wiring::Cube,
             n: opened.size,
+            end,
             bytes: own,
         },
     )?;

@@ -46,7 +46,17 @@ fn read_table(
     ensures table_after { table.new ≡ rest_after n (file_lines file.now) table.old }
 {
     let own = &mut own[..cells::table_length(n)];
-    lines::build_table(file, Edition::Two, &mut TableMut { n, bytes: own })?;
+    let end = Wiring::Cube.end_byte(n);
+    lines::build_table(
+        file,
+        Edition::Two,
+        &mut TableMut {
+            wiring: Wiring::Cube,
+            n,
+            end,
+            bytes: own,
+        },
+    )?;
     if table.len() != own.len() {
         return Err(Refusal::TableLength);
     }

@@ -9,7 +9,7 @@ use Rattle.station.specs.Tests.{unsuspected}
 use Rattle.slots.specs.Slots.{tested, untested, ahead, most_tests}
 use Rattle.slots.specs.declared.untested.Untested.{Untested}
 use Rattle.detection.specs.Claim.{worst_latency}
-use Rattle.latency.specs.Figures.{most_until_known}
+use Rattle.latency.specs.Turns.{most_until_known}
 use Rattle.table.specs.declared.wiring.Wiring.TheVariants.{Cube}
 use Rattle.single_crash.specs.Bounds.{one_dead_on}
 use Rattle.single_crash.specs.declared.bounds.OneDead.{OneDead}

@@ -5,7 +5,7 @@ use Rattle.table.specs.Sizes.{dimension}
 use Rattle.table.specs.declared.wiring.Wiring.TheVariants.{Cube}
 use Rattle.slots.specs.Slots.{most_of_boards}
 use Rattle.detection.specs.Claim.{worst_latency}
-use Rattle.latency.specs.Figures.{most_until_known}
+use Rattle.latency.specs.Turns.{most_until_known}
 use Rattle.single_crash.specs.Bounds.{one_dead_on}
 use Rattle.single_crash.specs.declared.bounds.OneDead.{OneDead}
 

@@ -3,11 +3,11 @@ ghost use Rattle.std.specs.Prelude.{◌≡◌, ◌≤◌, ◌==◌, map, take, c
 ghost use Rattle.std.specs.Result.{result_map_both};
 ghost use Rattle.station.specs.Tests.{unsuspected};
 ghost use Rattle.slots.specs.Slots.{most_tests};
-ghost use Rattle.latency.specs.Figures.{most_until_known};
+ghost use Rattle.latency.specs.Turns.{most_until_known};
 
 use crate::call::WrongCall;
 use input::reading;
-use latency::figures;
+use latency::turns;
 use station::due;
 use table::{Station, sizes};
 
@@ -107,7 +107,7 @@ impl Plant {
         ensures { result ≡ most_until_known self.now.size (take self.now.size self.now.row) }
     {
         let mut row = self.row;
-        figures::most_until_known(self.size, &mut row[..self.size as usize])
+        turns::most_until_known(self.size, &mut row[..self.size as usize])
     }
 
     // Whether board x is there and not dead.

@@ -8,7 +8,7 @@ ghost use Rattle.sheet.specs.Layout.{master_text, tests_line, untested_line, liv
 
 use crate::boards::Plant;
 use arrayvec::ArrayVec;
-use latency::figures;
+use latency::turns;
 use single_crash::bounds;
 use slots::untested::Untested;
 use std::fmt;
@@ -75,7 +75,7 @@ impl<'a> fmt::Display for Known<'a> {
 
     #[tactic(auto, unfolding(crate::specs::Layout::known_text))]
     fn fmt<W: fmt::Write>(&self, f: &mut fmt::Formatter<W>) -> fmt::Result {
-        let rounds = 1 + figures::worst_rounds(self.0.size);
+        let rounds = 1 + turns::worst_rounds(self.0.size);
         let grants = self.0.most_until_known();
         writeln!(
             f,

@@ -3,10 +3,10 @@
 ghost use Rattle.std.specs.Prelude.{◌≡◌, ◌≤◌, replicate, Some};
 ghost use Rattle.std.specs.Fmt.{DisplaysOnOk};
 ghost use Rattle.slots.specs.Slots.{most_of_boards};
-ghost use Rattle.latency.specs.Figures.{most_until_known};
+ghost use Rattle.latency.specs.Turns.{most_until_known};
 ghost use Rattle.sheet.specs.SizeLines.{size_cells, known_cells};
 
-use latency::figures;
+use latency::turns;
 use single_crash::bounds;
 use std::fmt;
 use table::wiring::Wiring;
@@ -57,7 +57,7 @@ fn write_known<W: fmt::Write>(f: &mut fmt::Formatter<W>, n: u8) -> fmt::Result
     requires { n ≤ 64 }
     ensures { DisplaysOnOk W.write_str_gives f.old result (Some (known_cells n)) f.new }
 {
-    let rounds = 1 + figures::worst_rounds(n);
+    let rounds = 1 + turns::worst_rounds(n);
     let grants = most_until_known(n);
     write!(f, "| {rounds} | {grants} ")?;
     match bounds::one_dead_on(Wiring::Cube, n) {
@@ -72,7 +72,7 @@ fn most_until_known(n: u8) -> u32
     ensures { result ≡ most_until_known n (replicate n 0) }
 {
     let mut row = [0; 64];
-    figures::most_until_known(n, &mut row[..n as usize])
+    turns::most_until_known(n, &mut row[..n as usize])
 }
 
 // The most tests of any of n boards where nobody is dead, or any one.

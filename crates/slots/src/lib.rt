@@ -14,7 +14,7 @@ pub mod claims;
 pub mod untested;
 
 use arrayvec::ArrayVec;
-use station::{due, order, rows};
+use station::{due, groups, rows};
 use table::{Distance, Station, sizes};
 
 // Whom i of n stations tests by its row of n bytes, in order. At most 255: any n has at most 256 distances, and 0 is never due.
@@ -26,7 +26,7 @@ pub fn list_tests(n: u8, row: &[u8], i: Station) -> ArrayVec<Station, 255>
     for m in 0..end {
         let m = Distance(m as u8);
         if is_due(row, i, m) {
-            list.push(order::station_at(i, m));
+            list.push(groups::station_at(i, m));
         }
     }
     list

@@ -5,7 +5,7 @@ ghost use Rattle.station.specs.Calls.{answer_byte};
 ghost use Rattle.slots.specs.Slots.{is_untested, untested, ahead};
 
 use arrayvec::ArrayVec;
-use station::{DueOrAhead, due, order};
+use station::{DueOrAhead, due, groups};
 use table::{Distance, Station, sizes};
 
 // A board that is not tested, and who stands ahead.
@@ -25,7 +25,7 @@ pub fn list_untested(n: u8, row: &[u8], i: Station) -> ArrayVec<Untested, 255>
     for m in 0..end {
         let m = Distance(m as u8);
         if let Some(ahead) = ahead_at(row, i, m) {
-            let board = order::station_at(i, m);
+            let board = groups::station_at(i, m);
             list.push(Untested { board, ahead });
         }
     }

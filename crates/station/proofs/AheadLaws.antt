@@ -12,12 +12,12 @@ use native.Mathlib.Omega.{arith}
 use borrow.Author.Tests.{eq-eqb, ne_eqb}
 use lib.Dec.{eqb}
 use lib.Pow.{pow_pos, pow_mono}
-use lib.Bits.{bit_xor, bit_or, differ, xor_step, xor_comm, xor_zero_r, xor_shr, or_step, or_shr, or_self, or_zero_r, or_add_and, and_le_r}
+use lib.Bits.{bit_xor, bit_or, bit_and, and_shr, and_block, and_zero_l, differ, xor_step, xor_comm, xor_zero_r, xor_shr, or_step, or_shr, or_self, or_zero_r, or_add_and, and_le_r}
 use Rattle.station.specs.Groups.{distance, station_at}
 use Rattle.table.specs.Sizes.{level}
 use Rattle.station.specs.Tests.{unsuspected, first, DueAnswer, answer_due, answer_ahead, answer, says_due, stands, due}
 use Rattle.station.specs.Calls.{answer_byte}
-use Rattle.station.specs.Ahead.{Before, NamedStandsBefore, BeforeByDigits, block_end, BeforeInBlock, NoneDueInBlock, DueIfNobodyBefore}
+use Rattle.station.specs.Ahead.{Before, SomebodyBefore, NamedStandsBefore, BeforeByDigits, block_end, BeforeInBlock, NoneDueInBlock, DueIfNobodyBefore}
 use Rattle.lists.proofs.BoolLaws.{by_bool}
 use Rattle.lists.proofs.Xor.{Near, div-le, near_le, near-of-xor, xor-of-near, xor_assoc, xor-cancel, xor-undo}
 use Rattle.table.proofs.Levels.{level-zero, level-upper, level-le, level-is, level-bounds, level-split}
@@ -132,6 +132,37 @@ block_near m t odd =
 pub before-in-block : BeforeInBlock
 before-in-block i m x y b lo hi = before-until i m x y (block_end m) b lo hi (λ t e odd. block_near m t odd)
 
+-- m without its lowest 1 has the level of m, where it is not 0
+without-lowest : (m g : ℕ) → m / 2 ^ g ≡ 1 → ¬ (bit_and m (m - 1) ≡ 0) → bit_and m (m - 1) / 2 ^ g ≡ 1
+without-lowest m g one some = by_cases (dec_lt (2 ^ g) m) more (λ l. absurd (some (only l)))
+  where
+    low : 1 * 2 ^ g ≤ m
+    low = (le-div_iff_mul-le (pow_pos g)).0 (omega (arith, one))
+
+    more : 2 ^ g < m → bit_and m (m - 1) / 2 ^ g ≡ 1
+    more l =
+        let least : 1 ≤ (m - 1) / 2 ^ g = (le-div_iff_mul-le (pow_pos g)).1 (omega (arith, l)) in
+        let same : (m - 1) / 2 ^ g ≡ 1 = omega (arith, one, div-le g (m - 1) m (omega arith)) in
+        and_shr m (m - 1) g ∙ rw (one, same) refl
+
+    only : ¬ (2 ^ g < m) → bit_and m (m - 1) ≡ 0
+    only l =
+        let power : m ≡ 2 ^ g = omega (arith, low, l) in
+        let w : ℕ = 2 ^ g - 1 in
+        let a : 1 * 2 ^ g + 0 ≡ 2 ^ g = omega arith in
+        let b : 0 * 2 ^ g + w ≡ w = omega arith in
+        let c : bit_and 1 0 * 2 ^ g + bit_and 0 w ≡ 0 = omega (arith, and_zero_l w, and_zero_l 0) in
+        rw power (rw (a, b) at (and_block g 1 0 0 w (pow_pos g) (omega (arith, pow_pos g)))) ∙ c
+
+-- so who stands there, from the station at distance m, stands before i
+pub nearer-before : (i m : ℕ) → ¬ (bit_and m (m - 1) ≡ 0) → Before i m (station_at (station_at i m) (bit_and m (m - 1)))
+nearer-before i m some =
+    let e = bit_and m (m - 1) in
+    let pos : 0 < m = omega (arith, and_le_r m (m - 1)) in
+    let u = level-split m pos in
+    let same : level e ≡ level m = top-level e u.0 (without-lowest m u.0 (level-top m u.0 u.1) some) ∙ sym u.1 in
+    rw (xor-cancel (station_at i m) e) (same, omega (arith, and_le_r m (m - 1)))
+
 -- as the code asks for it: the block begins with m, and that of distance 0 ends with it
 pub block-low : (m l : ℕ) → l ≡ block_end m → m ≤ l
 unfolding block_end
@@ -182,6 +213,10 @@ before-first q i m x passes b =
 not-due-before : (r : List ℕ) (i m x : ℕ) → unsuspected r x ≡ true → Before i m x → due r i m ≡ false
 not-due-before r i m x passes b = due-not r i m (before-first (unsuspected r) i m x passes b)
 
+-- so none of the block is due
+pub none-due-behind : (r : List ℕ) (i m y : ℕ) → SomebodyBefore r i m → m ≤ y → y ≤ block_end m → due r i y ≡ false
+none-due-behind r i m y (x, passes, b) lo hi = not-due-before r i y x passes (before-in-block i m x y b lo hi)
+
 pub due-if-nobody-before : DueIfNobodyBefore
 due-if-nobody-before r i m own pos = (λ e. (due-stands r i m e, there e), λ given. due-is r i m ∙ back given.0 given.1 (answer r i m) refl)
   where
@@ -202,9 +237,7 @@ none-due-in-block r i m x y here e lo hi = by_bool (unsuspected r i) (λ own. pi
     not_own fails = due-not r i y (first-not (unsuspected r) (station_at i y) (level y) i fails)
 
     pick : unsuspected r i ≡ true → Dec (0 < m) → due r i y ≡ false
-    pick own (yes pos) =
-        let b = named-stands-before r i m x own pos here e in
-        not-due-before r i y x b.0 (before-in-block i m x y b.1 lo hi)
+    pick own (yes pos) = let b = named-stands-before r i m x own pos here e in none-due-behind r i m y (x, b.0, b.1) lo hi
     pick own (no none) =
         let zero-m : m ≡ 0 = omega arith in
         let flat : y ≡ 0 = omega (arith, block-zero, rw zero-m at hi) in

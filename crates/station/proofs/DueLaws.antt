@@ -15,7 +15,7 @@ use lib.Dec.{ltb, eqb}
 use Rattle.lists.specs.Search.{least}
 use Rattle.station.specs.Groups.{station_at, width, member}
 use Rattle.table.specs.Sizes.{level}
-use Rattle.station.specs.Tests.{unsuspected, first_place, first, answer_ahead, answer_of, answer, says_due, stands, due}
+use Rattle.station.specs.Tests.{unsuspected, first_place, first, DueAnswer, answer_due, answer_ahead, answer_of, answer, says_due, stands, due}
 use Rattle.lists.proofs.BoolLaws.{by_bool}
 use Rattle.lists.proofs.SearchLaws.{get_d-within, both, least-is, least-none, least-passes, least-before}
 use Rattle.table.proofs.Levels.{level-zero, level-split, level_in}
@@ -125,6 +125,11 @@ answer-zero r i = by_bool (stands r i 0) (λ here. rw (here, level-zero, first-z
 pub due-is : (r : List ℕ) (i m : ℕ) → due r i m ≡ says_due (answer r i m)
 unfolding due
 due-is r i m = refl
+
+-- what does not say "due" names somebody
+pub names : (a : DueAnswer) → says_due a ≡ false → (x : ℕ) × (a ≡ answer_ahead x)
+names answer_due e = absurd (true≢false e)
+names (answer_ahead x) e = (x, refl)
 
 -- where no station stands a distance is not due
 pub due-absent : (r : List ℕ) (i m : ℕ) → stands r i m ≡ false → due r i m ≡ false

@@ -15,7 +15,7 @@ use Rattle.table.specs.Rules.{table_check, station_check}
 use Rattle.station.specs.Calls.{row_check, range_check, group_check, assignment_check}
 use Rattle.lists.proofs.BoolLaws.{neither}
 use Rattle.lists.proofs.RefusalLaws.{ensure_ok, and_ok}
-use Rattle.table.proofs.SizeLaws.{size-bounds, size-dimension}
+use Rattle.table.proofs.SizeLaws.{size-bounds, size_top, size-dimension}
 use Rattle.table.proofs.Accepting.{Accepted, table_ok}
 use Rattle.table.specs.declared.wiring.Wiring.{Wiring}
 use Rattle.table.specs.declared.wiring.Wiring.TheVariants.{Cube}
@@ -31,6 +31,9 @@ range_ok n i s x e =
 
 pub dimension_top : (n : ℕ) → is_size n ≡ true → dimension n ≤ 6
 dimension_top n e = size-dimension n e
+
+-- what a group list is checked by
+pub ruleset group_bounds = (size_top, range_ok, dimension_top)
 
 -- what a group list that is not refused has
 pub group_ok : (n i s len : ℕ) (x : Unit {0}) → group_check n i s len ≡ Ok x

@@ -16,13 +16,17 @@ use Rattle.lists.proofs.BoolLaws.{by_bool, least-same}
 use Rattle.lists.proofs.SearchLaws.{least-is, least-between, both}
 use Rattle.lists.proofs.Xor.{xor-cancel}
 use Rattle.table.specs.Wiring.{is_ring, end_distance}
-use Rattle.table.proofs.WiringLaws.{end_ring}
+use Rattle.table.proofs.SizeLaws.{size_top}
+use Rattle.table.proofs.WiringLaws.{end_ring, end_top}
 use Rattle.table.specs.declared.wiring.Wiring.{Wiring}
 use Rattle.station.specs.Groups.{station_at}
 use Rattle.station.specs.Tests.{due}
 use Rattle.station.specs.Outcome.{outcome_exchanged}
 use Rattle.station.specs.Wired.{wired_station, wired_due, next_due, next_after}
 use Rattle.station.proofs.DueLaws.{due-present}
+
+-- what a size and an end distance are at most
+pub ruleset wired_bounds = (size_top, end_top, end_ring)
 
 -- a place of the ring before n, and one behind it
 pub place_before : (n x : ℕ) → x < n → x % n ≡ x

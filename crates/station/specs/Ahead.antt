@@ -12,6 +12,10 @@ use Rattle.station.specs.Tests.{unsuspected, answer_ahead, answer, stands, due}
 abbrev pub Before : ℕ → ℕ → ℕ → Type 0
 Before i m x = (level (distance (station_at i m) x) ≡ level m) × (distance (station_at i m) x < m)
 
+-- somebody whom row r does not suspect stands before i at distance m
+abbrev pub SomebodyBefore : List ℕ → ℕ → ℕ → Type 0
+SomebodyBefore r i m = (x : ℕ) × (unsuspected r x ≡ true) × Before i m x
+
 -- Rule Assignment exact: for a row that does not suspect its own station, whom the answer names where a station stands is not suspected and stands
 -- before i
 abbrev pub NamedStandsBefore : Type 0

@@ -8,7 +8,7 @@ use Rattle.station.specs.Groups.{station_at, is_present, group}
 use Rattle.table.specs.Table.{row_start, row, live}
 use Rattle.lists.specs.declared.refusal.Refusal.{Refusal}
 use Rattle.lists.specs.declared.refusal.Refusal.TheVariants.{SizeOutOfRange, NotLive, NoSuchLevel}
-use Rattle.lists.specs.Refusal.{Check, ensure, ◌and◌, number_of_result, unless_refused}
+use Rattle.lists.specs.Refusal.{Check, ensure, ◌and◌, unless_refused}
 use Rattle.table.specs.Rules.{table_check, length_check, station_check}
 use Rattle.table.specs.declared.wiring.Wiring.{Wiring}
 use Rattle.table.specs.declared.wiring.Wiring.TheVariants.{Cube}
@@ -79,13 +79,3 @@ assignment_answer n t i len = assignment_check n t i len and Ok (length (due_dis
 -- that count, 0 for a refused call
 abbrev pub assignment_count : ℕ → List ℕ → ℕ → ℕ → ℕ
 assignment_count n t i len = result_unwrap_or (assignment_answer n t i len) 0
-
--- the numbers of these
-abbrev pub group_refusal : ℕ → ℕ → ℕ → ℕ → ℕ
-group_refusal n i s len = number_of_result (group_check n i s len)
-
-abbrev pub row_refusal : Wiring → ℕ → List ℕ → ℕ → ℕ
-row_refusal w n t i = number_of_result (row_check w n t i)
-
-abbrev pub assignment_refusal : ℕ → List ℕ → ℕ → ℕ → ℕ
-assignment_refusal n t i len = number_of_result (assignment_answer n t i len)

@@ -24,7 +24,7 @@ outcome_crash = 4
 abbrev pub outcome_tested_told : ℕ
 outcome_tested_told = 5
 
--- what the sheet has for the tested station where there is none
+-- what stands for a station where there is none
 abbrev pub no_station : ℕ
 no_station = 255
 

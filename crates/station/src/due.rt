@@ -4,10 +4,9 @@ ghost use Rattle.std.specs.Result.{result_map_both};
 ghost use Rattle.table.specs.Sizes.{level};
 ghost use Rattle.table.specs.Table.{row};
 ghost use Rattle.station.specs.Tests.{unsuspected, first, answer_of, answer, stands, due_distances};
-ghost use Rattle.station.specs.Ahead.{block_end};
 ghost use Rattle.station.specs.Calls.{answer_value, other_distances, assignment_entries, assignment_check, assignment_after, assignment_answer};
 
-use crate::{DueOrAhead, groups, order, rows};
+use crate::{DueOrAhead, groups, rows};
 use lists::refusal::Refusal;
 use table::lent::Table;
 use table::wiring::Wiring;
@@ -33,7 +32,7 @@ fn first_unsuspected(row: &[u8], j: Station, m: Distance) -> Option<Station>
     }
     let w = groups::width_of(sizes::level_of(m));
     for k in 0..w {
-        let x = order::station_at(j, Distance(w + k));
+        let x = groups::station_at(j, Distance(w + k));
         if is_unsuspected(row, x) {
             return Some(x);
         }
@@ -45,7 +44,7 @@ fn first_unsuspected(row: &[u8], j: Station, m: Distance) -> Option<Station>
 pub fn stands(row: &[u8], i: Station, m: Distance) -> bool
     ensures { result ≡ stands row.now i.0 m.0 }
 {
-    let j = order::station_at(i, m);
+    let j = groups::station_at(i, m);
     let at = j.0 as usize;
     at < row.len()
 }
@@ -59,7 +58,7 @@ pub fn due_or_ahead(row: &[u8], i: Station, m: Distance) -> DueOrAhead
     if !stands(row, i, m) {
         return DueOrAhead::Ahead(i);
     }
-    match first_unsuspected(row, order::station_at(i, m), m) {
+    match first_unsuspected(row, groups::station_at(i, m), m) {
         Some(x) => answer_of(i, x),
         None => DueOrAhead::Ahead(i),
     }
@@ -74,17 +73,6 @@ fn answer_of(i: Station, x: Station) -> DueOrAhead
     } else {
         DueOrAhead::Ahead(x)
     }
-}
-
-// m with its digits below its lowest 1 all 1. Whoever stands before a station in the group at distance m does so at every distance from m to
-// this one.
-pub fn block_end(m: Distance) -> Distance
-    ensures { result.0 ≡ block_end m.0 }
-{
-    if m.0 == 0 {
-        return m;
-    }
-    Distance(m.0 | (m.0 - 1))
 }
 
 // The assignment of live station i: for each other station, by ascending distance, the distance, and 255 if it is due or else the one ahead; and

@@ -1,11 +1,17 @@
-// Groups.
+// Groups, and the station at a distance.
 ghost use Rattle.std.specs.Prelude.{◌≡◌, ◌<◌, ◌≤◌, length};
-ghost use Rattle.station.specs.Groups.{width, group};
+ghost use Rattle.station.specs.Groups.{station_at, width, group};
 ghost use Rattle.station.specs.Calls.{range_check, group_check, group_after};
 
-use crate::order;
 use lists::refusal::Refusal;
 use table::{Distance, Level, Station, sizes};
+
+// The station at distance m from i: the exclusive or of both.
+pub fn station_at(i: Station, m: Distance) -> Station
+    ensures { result.0 ≡ station_at i.0 m.0 }
+{
+    Station(i.0 ^ m.0)
+}
 
 // How many numbers a full group at level s has, and its least distance.
 pub(crate) fn width_of(s: Level) -> u8
@@ -30,7 +36,7 @@ pub fn group_list(n: usize, i: Station, s: Level, list: &mut [u8]) -> Result<(),
 }
 
 // Refusals 1, 9, 12, 13.
-#[tactic(auto, using(table::proofs::SizeLaws::size_top, crate::proofs::Refusals::range_ok, crate::proofs::Refusals::dimension_top), unfolding(crate::specs::Calls::group_check))]
+#[tactic(auto, using(crate::proofs::Refusals::group_bounds), unfolding(crate::specs::Calls::group_check))]
 fn check_group(n: usize, i: Station, s: Level, len: usize) -> Result<(), Refusal>
     ensures { result ≡ group_check n i.0 s.0 len }
 {
@@ -70,7 +76,7 @@ fn group_length(n: u8, i: Station, s: Level) -> usize
 {
     let w = width_of(s);
     (0..w)
-        .map(|k| order::station_at(i, Distance(w + k)).0)
+        .map(|k| station_at(i, Distance(w + k)).0)
         .filter(|x| *x < n)
         .count()
 }
@@ -84,7 +90,7 @@ fn write_group(n: u8, i: Station, s: Level, list: &mut [u8])
 {
     let w = width_of(s);
     let members = (0..w)
-        .map(|k| order::station_at(i, Distance(w + k)).0)
+        .map(|k| station_at(i, Distance(w + k)).0)
         .filter(|x| *x < n);
     // By places: of what is written through `iter_mut().zip(members)` no proof knows anything afterwards.
     for (k, x) in members.enumerate() {

@@ -13,7 +13,6 @@ ghost use Rattle.station.specs.Calls.{answer_value, answer_byte};
 pub mod claims;
 pub mod due;
 pub mod groups;
-pub mod order;
 pub mod outcome;
 pub mod rows;
 pub mod wired;

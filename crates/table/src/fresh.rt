@@ -1,13 +1,10 @@
 // The call for a fresh table.
-ghost use Rattle.std.specs.Prelude.{◌≡◌, ◌<◌, length};
-ghost use Rattle.std.proofs.lemmas.List.Edits.{sets};
+ghost use Rattle.std.specs.Prelude.{◌≡◌, length};
 ghost use Rattle.lists.specs.Search.{list_of};
-ghost use Rattle.table.specs.Lent.{IsSameLoan};
-ghost use Rattle.table.specs.Table.{stride, line_start};
+ghost use Rattle.table.specs.Table.{stride, table_length};
 ghost use Rattle.table.specs.Rules.{shape_check};
 ghost use Rattle.table.specs.Fresh.{fresh_byte, fresh_table, fresh_after};
 
-use crate::lent::TableMut;
 use crate::{Station, cells, rules};
 use lists::refusal::Refusal;
 
@@ -18,34 +15,20 @@ pub fn fresh_table(n: usize, table: &mut [u8]) -> Result<(), Refusal>
     ensures table_after { table.new ≡ fresh_after n table.old }
 {
     rules::check_shape(n, table.len())?;
-    write_fresh(&mut TableMut {
-        n: n as u8,
-        bytes: table,
-    });
+    write_fresh(n as u8, table);
     Ok(())
 }
 
-// Writes the lines.
-fn write_fresh(table: &mut TableMut)
-    ensures same_loan { IsSameLoan table.old table.new }
-    ensures fresh_bytes { table.new.bytes.now ≡ fresh_table table.old.n }
+// Writes the lines of a table of n stations.
+fn write_fresh(n: u8, table: &mut [u8])
+    requires { length table.old ≡ table_length n }
+    ensures { table.new ≡ fresh_table n }
 {
-    for i in 0..table.n {
-        put_fresh_line(table, Station(i));
+    for i in 0..n {
+        let a = cells::line_start(n, Station(i));
+        let e = a + cells::line_length(n);
+        write_line(n, &mut table[a..e]);
     }
-}
-
-// Writes the fresh line of station i.
-fn put_fresh_line(table: &mut TableMut, i: Station)
-    requires { i.0 < table.old.n }
-    ensures same_loan { IsSameLoan table.old table.new }
-    ensures line_written { table.new.bytes.now
-        ≡ sets table.old.bytes.now (line_start table.old.n i.0)
-        (list_of (fresh_byte table.old.n) (stride table.old.n)) }
-{
-    let a = cells::line_start(table.n, i);
-    let e = a + cells::line_length(table.n);
-    write_line(table.n, &mut table.bytes[a..e]);
 }
 
 // Fills a line of a table of n stations.

@@ -1,7 +1,8 @@
-// The lent table as a type: a size and the bytes of a table of that size. That the size is one and that the length fits are ghost fields, so that
-// no method asks for them. That a line or column is there a method does ask, since it makes no test of its place.
+// The lent table as a type: a wiring, a size, the end distance of both, computed once, and the bytes of a table of that size. That they fit each
+// other are ghost fields, so that no function asks for them. That a line or column is there a method does ask, since it makes no test of its place.
 ghost use Rattle.std.specs.Prelude.{◌≡◌, ◌+◌, ◌<◌, ◌==◌, true, length, IfOk};
 ghost use Rattle.table.specs.Sizes.{is_size};
+ghost use Rattle.table.specs.Wiring.{end_distance};
 ghost use Rattle.table.specs.Table.{stride, table_length, cell, set_cell, status_column, row_start, row, live, next_distance, finished, suspects};
 ghost use Rattle.table.specs.Status.{status_byte};
 ghost use Rattle.std.specs.Result.{result_map_both};
@@ -15,46 +16,61 @@ use lists::refusal::Refusal;
 // A table of n stations, to be read.
 #[derive(Clone, Copy)]
 pub struct Table<'a> {
+    pub wiring: Wiring,
     pub n: u8,
+    pub end: u8,
     pub bytes: &'a [u8],
     ghost sized: { is_size n ≡ true },
+    ghost last_of_pass: { end ≡ end_distance wiring n },
     ghost fits: { length bytes.now ≡ table_length n },
 }
 
 // A table of n stations, to be written. A caller checks the bytes as a `Table` first, and then makes it of the same size and bytes.
 #[derive(Drop)]
 pub struct TableMut<'a> {
+    pub wiring: Wiring,
     pub n: u8,
+    pub end: u8,
     pub bytes: &'a mut [u8],
     ghost sized: { is_size n ≡ true },
+    ghost last_of_pass: { end ≡ end_distance wiring n },
     ghost fits: { length bytes.now ≡ table_length n },
 }
 
 impl<'a> Table<'a> {
-    // The lent bytes as a table of n stations: refusals 1 and 2. That the answer has that size and those bytes stands in a clause each, here and in
-    // what hands a table on, so that a caller cites the one that it needs.
+    // The lent bytes as a table of n stations: refusals 1 and 2. That the answer has that wiring, size and those bytes stands in a clause each, here
+    // and in what hands a table on, so that a caller cites the one that it needs.
     #[tactic(auto, using(crate::proofs::Accepting::shape_ok, crate::proofs::SizeLaws::size_top))]
-    pub fn of(n: usize, bytes: &'a [u8]) -> Result<Table<'a>, Refusal>
+    pub fn of(wiring: Wiring, n: usize, bytes: &'a [u8]) -> Result<Table<'a>, Refusal>
         ensures check { result_map_both (λ t. tt) (λ r. r) result
             ≡ shape_check n (length bytes.now) }
+        ensures same_wiring { IfOk result (λ t. t.wiring ≡ wiring) }
         ensures same_size { IfOk result (λ t. t.n ≡ n) }
         ensures same_bytes { IfOk result (λ t. t.bytes.now ≡ bytes.now) }
         ensures same_place { IfOk result (λ t. t.bytes.ref_ptr ≡ bytes.entry.ref_ptr) }
     {
         rules::check_shape(n, bytes.len())?;
-        Ok(Table { n: n as u8, bytes })
+        let n = n as u8;
+        let end = wiring.end_byte(n);
+        Ok(Table {
+            wiring,
+            n,
+            end,
+            bytes,
+        })
     }
 
     // The lent bytes as a table of n stations on a wiring that obeys the line rules and whose round is not over: refusals 1 to 4.
     #[tactic(auto, unfolding(crate::specs::Rules::table_check))]
     pub fn checked(wiring: Wiring, n: usize, bytes: &'a [u8]) -> Result<Table<'a>, Refusal>
         ensures check { result_map_both (λ t. tt) (λ r. r) result ≡ table_check wiring n bytes.now }
+        ensures same_wiring { IfOk result (λ t. t.wiring ≡ wiring) }
         ensures same_size { IfOk result (λ t. t.n ≡ n) }
         ensures same_bytes { IfOk result (λ t. t.bytes.now ≡ bytes.now) }
         ensures same_place { IfOk result (λ t. t.bytes.ref_ptr ≡ bytes.entry.ref_ptr) }
     {
-        let table = Table::of(n, bytes)?;
-        if !rules::all_lines(wiring, &table) {
+        let table = Table::of(wiring, n, bytes)?;
+        if !rules::all_lines(&table) {
             return Err(Refusal::LineRule);
         }
         if table.is_round_over() {
@@ -162,11 +178,15 @@ impl<'a> TableMut<'a> {
 
     // The table, to be read.
     pub fn read(&self) -> Table<'_>
+        ensures same_wiring { result.wiring ≡ self.now.wiring }
         ensures same_size { result.n ≡ self.now.n }
+        ensures same_end { result.end ≡ self.now.end }
         ensures same_bytes { result.bytes.now ≡ self.now.bytes.now }
     {
         Table {
+            wiring: self.wiring,
             n: self.n,
+            end: self.end,
             bytes: &*self.bytes,
         }
     }

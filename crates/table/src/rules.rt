@@ -34,12 +34,12 @@ pub fn check_table(wiring: Wiring, n: usize, table: &[u8]) -> Result<(), Refusal
 
 // Whether every line obeys the line rules. A loop with an exit is faster here than std's `all`.
 #[tactic(auto, using(lists::proofs::Loops::loops))]
-pub(crate) fn all_lines(wiring: Wiring, table: &Table) -> bool
+pub(crate) fn all_lines(table: &Table) -> bool
     ensures { let n = table.now.n in
-        result ≡ every (line_rules wiring n table.now.bytes.now) n }
+        result ≡ every (line_rules table.now.wiring n table.now.bytes.now) n }
 {
     for i in 0..table.n {
-        if !line_rules(wiring, table, Station(i)) {
+        if !line_rules(table, Station(i)) {
             return false;
         }
     }
@@ -47,10 +47,10 @@ pub(crate) fn all_lines(wiring: Wiring, table: &Table) -> bool
 }
 
 #[tactic(auto, using(crate::proofs::StatusLaws::status_ok, crate::proofs::StatusLaws::status_err), unfolding(crate::specs::Rules::line_rules))]
-fn line_rules(wiring: Wiring, table: &Table, i: Station) -> bool
+fn line_rules(table: &Table, i: Station) -> bool
     requires { i.0 < table.now.n }
     ensures { result
-        ≡ line_rules wiring table.now.n table.now.bytes.now i.0 }
+        ≡ line_rules table.now.wiring table.now.n table.now.bytes.now i.0 }
 {
     let Ok(status) = Status::try_from(table.get(i, cells::STATUS)) else {
         return false;
@@ -58,7 +58,7 @@ fn line_rules(wiring: Wiring, table: &Table, i: Station) -> bool
     let next = table.get(i, cells::NEXT);
     let finished = table.get(i, cells::FINISHED);
     let tests = table.get(i, cells::TESTS);
-    if !pass_rule(wiring.end_distance(table.n), next, finished, tests) {
+    if !pass_rule(table.end, next, finished, tests) {
         return false;
     }
     let by = table.get(i, cells::TOLD_BY);
@@ -70,16 +70,16 @@ fn line_rules(wiring: Wiring, table: &Table, i: Station) -> bool
 }
 
 // The rules of bytes 1 to 3, by the end distance. Byte 1 is 1 or more where byte 3 is below it.
-pub fn pass_rule(end: u16, next: u8, finished: u8, tests: u8) -> bool
+pub fn pass_rule(end: u8, next: u8, finished: u8, tests: u8) -> bool
     ensures { result ≡ pass_rule end next finished tests }
 {
-    if end < next as u16 {
+    if end < next {
         return false;
     }
     if next <= tests {
         return false;
     }
-    (finished == 0) | ((finished == 1) & (next as u16 == end))
+    (finished == 0) | ((finished == 1) & (next == end))
 }
 
 // The rules of bytes 4 and 5, by the status. Byte 4 is asked first, since most often it is 255, and the rest makes no branch.

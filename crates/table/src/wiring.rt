@@ -1,5 +1,6 @@
 // The wiring of a plant, as a value and as the number that a call is given.
-ghost use Rattle.std.specs.Prelude.{◌≡◌, ◌≤◌};
+ghost use Rattle.std.specs.Prelude.{◌≡◌, ◌≤◌, true};
+ghost use Rattle.table.specs.Sizes.{is_size};
 ghost use Rattle.table.specs.Wiring.{wiring_of, end_distance};
 
 use crate::sizes;
@@ -40,5 +41,14 @@ impl Wiring {
             Wiring::Cube => sizes::distances(n),
             Wiring::Ring => u16::from(n),
         }
+    }
+
+    // The same as a byte, where n is a plant's size.
+    #[tactic(auto, using(crate::proofs::SizeLaws::size_top, crate::proofs::WiringLaws::end_top))]
+    pub fn end_byte(self, n: u8) -> u8
+        requires { is_size n ≡ true }
+        ensures { result ≡ end_distance self n }
+    {
+        self.end_distance(n) as u8
     }
 }

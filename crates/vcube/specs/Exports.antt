@@ -14,7 +14,7 @@ use Rattle.table.specs.Status.{status_of, status_words}
 use Rattle.table.specs.Wiring.{wiring_of}
 use Rattle.table.specs.declared.wiring.Wiring.{Wiring}
 use Rattle.lists.specs.declared.refusal.Refusal.TheVariants.{NoSuchWiring}
-use Rattle.station.specs.Outcome.{outcome_with, outcome_words}
+use Rattle.station.specs.Outcome.{no_station, outcome_with, outcome_words}
 use Rattle.slots.specs.Board.{slot_answer}
 use Rattle.slots.specs.declared.board.Slot.{Slot}
 use Rattle.latency.specs.Wait.{wait_answer}
@@ -92,17 +92,13 @@ pub record PairResult : Type 0 where
 abbrev pub pair_out : ℕ → ℕ → ℕ → PairResult
 pair_out number by of = record { number = number; by = by; of = of }
 
--- stands for both stations where there is no pair, and for the station where there is no next test
-abbrev pub no_station : ℕ
-no_station = 255
-
--- Rule Lamp call: the number and the stations of each answer
+-- Rule Lamp call: the number and the stations of each answer, 255 for both where there is no pair
 abbrev pub pair_of : Result (Option Doubt) Refusal → PairResult
 pair_of (Ok (Some pair)) = pair_out 0 pair.by.0 pair.of.0
 pair_of (Ok None) = pair_out 0 no_station no_station
 pair_of (Err refusal) = pair_out (number_of refusal) 0 0
 
--- Board, next: the station that the next turn tests; 0 where the call is refused
+-- Board, next: the station that the next turn tests, 255 where there is none; 0 where the call is refused
 abbrev pub station_number : Result (Option ℕ) Refusal → ℕ
 station_number (Ok (Some j)) = j
 station_number (Ok None) = no_station

@@ -7,20 +7,20 @@ ghost use Rattle.std.specs.Result.{result_unwrap_or};
 ghost use Rattle.lists.specs.Refusal.{number_of_result};
 ghost use Rattle.table.specs.Rules.{shape_check};
 ghost use Rattle.table.specs.Fresh.{fresh_after};
-ghost use Rattle.station.specs.Calls.{group_refusal, group_after, row_refusal, row_part, row_offset, assignment_refusal, assignment_after};
+ghost use Rattle.station.specs.Calls.{group_check, group_after, row_check, row_part, row_offset, assignment_answer, assignment_after};
 ghost use Rattle.station.specs.Calls.{assignment_count};
 ghost use Rattle.plant.specs.Entry.{state_of};
 ghost use Rattle.detection.specs.Runs.{call_of, run_by, CountsTaken};
 ghost use Rattle.detection.specs.InList.{DetectionInList, DrivenDetectionInList};
 ghost use Rattle.detection.specs.Driven.{a_run, a_drive, drive_by};
 ghost use Rattle.accuracy.specs.Accurate.{AccurateAfter};
-ghost use Rattle.granter.specs.Grant.{grant_check, grant_station};
+ghost use Rattle.granter.specs.Grant.{grant_answer, grant_station};
 ghost use Rattle.granter.specs.Drive.{StoppedIfTaken};
 ghost use Rattle.lamp.specs.Doubt.{doubt_lamp};
-ghost use Rattle.mender.specs.Report.{mend, table_after, report_after};
-ghost use Rattle.saved.specs.Load.{size_refusal, saved_size, size_figure, load_refusal, load_answer, loaded_figures, load_after};
-ghost use Rattle.saved.specs.Save.{save_refusal, save_after};
-ghost use Rattle.saved.specs.Convert.{convert_refusal, convert_after, converted_length, converted_length_refusal, length_figure};
+ghost use Rattle.mender.specs.Report.{mend, mended_after, report_after};
+ghost use Rattle.saved.specs.Load.{saved_size, size_figure, load_answer, loaded_figures, load_after};
+ghost use Rattle.saved.specs.Save.{save_check, save_after};
+ghost use Rattle.saved.specs.Convert.{convert_check, convert_after, converted_length, length_figure};
 ghost use Rattle.figures.specs.Batch.{figures};
 ghost use Rattle.figures.specs.Totals.{totals, join, figures_of_totals};
 ghost use Rattle.table.specs.Wiring.{wiring_of};
@@ -97,7 +97,7 @@ pub extern "C" fn vcube_fresh_table(wiring: usize, n: usize, table: &mut [u8]) -
 #[tactic(auto, using(crate::proofs::Narrow::group_check_narrow, crate::proofs::Narrow::group_after_narrow))]
 #[unsafe(no_mangle)]
 pub extern "C" fn vcube_group_list(n: usize, station: usize, level: usize, list: &mut [u8]) -> u8
-    ensures number { result ≡ group_refusal n station level (length list.old) }
+    ensures number { result ≡ number_of_result (group_check n station level (length list.old)) }
     ensures list_after { list.new ≡ group_after n station level list.old }
 {
     let check = groups::group_list(n, Station(byte_of(station)), Level(byte_of(level)), list);
@@ -115,7 +115,7 @@ pub extern "C" fn vcube_assignment(
     list: &mut [u8],
     count: &mut usize,
 ) -> u8
-    ensures number { result ≡ assignment_refusal n table.now station (length list.old) }
+    ensures number { result ≡ number_of_result (assignment_answer n table.now station (length list.old)) }
     ensures count_after { count.new ≡ assignment_count n table.now station (length list.old) }
     ensures list_after { list.new ≡ assignment_after n table.now station list.old }
 {
@@ -139,7 +139,7 @@ pub extern "C" fn vcube_row(
     bytes: &mut usize,
 ) -> u8
     ensures number { let t = table.now in
-        result ≡ on_wiring wiring no_such_wiring (λ w. row_refusal w n t station) }
+        result ≡ on_wiring wiring no_such_wiring (λ w. number_of_result (row_check w n t station)) }
     ensures start_after { let t = table.now in
         start.new ≡ on_wiring wiring 0 (λ w. row_offset w n t station) }
     ensures bytes_after { let t = table.now in
@@ -207,7 +207,7 @@ pub extern "C" fn vcube_run(
 }
 
 // Grant: the station that is granted after the last one, 0 where it is refused.
-#[tactic(auto, using(crate::proofs::OnWiring::on_each, granter::proofs::GrantLaws::grant_answer_refusal))]
+#[tactic(auto, using(crate::proofs::OnWiring::on_each))]
 #[unsafe(no_mangle)]
 pub extern "C" fn vcube_grant(
     wiring: usize,
@@ -216,7 +216,7 @@ pub extern "C" fn vcube_grant(
     last: usize,
     station: &mut usize,
 ) -> u8
-    ensures number { result ≡ on_wiring wiring no_such_wiring (λ w. number_of_result (grant_check w n table.now last)) }
+    ensures number { result ≡ on_wiring wiring no_such_wiring (λ w. number_of_result (grant_answer w n table.now last)) }
     ensures station_after { station.new ≡ on_wiring wiring 0 (λ w. grant_station w n table.now last) }
 {
     let Ok(wiring) = Wiring::try_from(wiring) else {
@@ -310,7 +310,7 @@ pub extern "C" fn vcube_mend(
     ensures changes_after { let room = length report.old in
         changes.new ≡ on_wiring wiring 0 (λ w. result_unwrap_or (mend w n table.old room) 0) }
     ensures mended_table { let room = length report.old in
-        table.new ≡ on_wiring wiring table.old (λ w. table_after w n table.old room) }
+        table.new ≡ on_wiring wiring table.old (λ w. mended_after w n table.old room) }
     ensures listed_changes { report.new
         ≡ on_wiring wiring report.old (λ w. report_after w n table.old report.old) }
 {
@@ -332,14 +332,14 @@ pub extern "C" fn vcube_save(
     tests: u32,
     buffer: &mut [u8],
 ) -> u8
-    ensures number { result ≡ save_refusal n table.now (tally_of rounds tests) (length buffer.old) }
+    ensures number { let tally = tally_of rounds tests in
+        result ≡ number_of_result (save_check n table.now tally (length buffer.old)) }
     ensures buffer_after { buffer.new ≡ save_after n table.now (tally_of rounds tests) buffer.old }
 {
     number_of(save::save(n, table, Tally { rounds, tests }, buffer))
 }
 
 // Load: a saved plant's table, into a buffer of just its length; its size and tally into n, rounds and tests, 0 where it is refused.
-#[tactic(auto, using(saved::proofs::Loading::load_numbered))]
 #[unsafe(no_mangle)]
 pub extern "C" fn vcube_load(
     file: &[u8],
@@ -348,7 +348,7 @@ pub extern "C" fn vcube_load(
     rounds: &mut u32,
     tests: &mut u32,
 ) -> u8
-    ensures number { result ≡ load_refusal file.now (length table.old) }
+    ensures number { result ≡ number_of_result (load_answer file.now (length table.old)) }
     ensures loaded_after { loaded_out n.new rounds.new tests.new
         ≡ loaded_figures (load_answer file.now (length table.old)) }
     ensures table_after { table.new ≡ load_after file.now table.old }
@@ -361,10 +361,9 @@ pub extern "C" fn vcube_load(
 }
 
 // The size of a saved plant into n, 0 where it is refused.
-#[tactic(auto, using(saved::proofs::Loading::size_numbered))]
 #[unsafe(no_mangle)]
 pub extern "C" fn vcube_saved_size(file: &[u8], n: &mut usize) -> u8
-    ensures number { result ≡ size_refusal file.now }
+    ensures number { result ≡ number_of_result (saved_size file.now) }
     ensures n_after { n.new ≡ size_figure (saved_size file.now) }
 {
     let (number, size) = parts(load::saved_size(file), 0);
@@ -375,17 +374,16 @@ pub extern "C" fn vcube_saved_size(file: &[u8], n: &mut usize) -> u8
 // Convert: a file of edition 1 as a saved plant, into a buffer of just its length.
 #[unsafe(no_mangle)]
 pub extern "C" fn vcube_convert(old: &[u8], buffer: &mut [u8]) -> u8
-    ensures number { result ≡ convert_refusal old.now (length buffer.old) }
+    ensures number { result ≡ number_of_result (convert_check old.now (length buffer.old)) }
     ensures buffer_after { buffer.new ≡ convert_after old.now buffer.old }
 {
     number_of(convert::convert(old, buffer))
 }
 
 // The length of what a file of edition 1 is converted to, into len, 0 where it is refused.
-#[tactic(auto, using(saved::proofs::Converter::length_numbered))]
 #[unsafe(no_mangle)]
 pub extern "C" fn vcube_converted_length(old: &[u8], len: &mut usize) -> u8
-    ensures number { result ≡ converted_length_refusal old.now }
+    ensures number { result ≡ number_of_result (converted_length old.now) }
     ensures len_after { len.new ≡ length_figure (converted_length old.now) }
 {
     let (number, converted) = parts(convert::converted_length(old), 0);

@@ -18,7 +18,7 @@ use Rattle.table.specs.Rules.{shape_check, table_check}
 use Rattle.table.specs.Fresh.{fresh_table, fresh_after}
 use Rattle.plant.specs.declared.Ran.{Ran as RanPlant}
 use Rattle.plant.specs.Entry.{State, state_of}
-use Rattle.plant.specs.Run.{RunResult, outcome_with, start_check, run}
+use Rattle.plant.specs.Run.{RunResult, run_result, start_check, run}
 use Rattle.input.specs.declared.reading.Parsed.{Parsed}
 use Rattle.input.specs.declared.reading.Unread.{Unread}
 use Rattle.input.specs.Input.{lines, read_input, read_into}
@@ -56,7 +56,7 @@ carried-refused wiring n schedule lent e =
 -- a run on the lent table after it was made fresh, with the first k bytes of a lent sheet, answers what a run of a fresh table answers
 pub carried : (wiring : Wiring) (n : ℕ) (t schedule lent : List ℕ) (r : RanPlant) (t' s' : List ℕ) (k : ℕ)
     → (is_size n ≡ true → length t ≡ table_length n) → k ≡ 2 * length schedule → length s' ≡ k → k ≤ length lent
-    → outcome_with r t' s' ≡ run wiring n (state_of (fresh_after n t) 0 0) schedule (take k lent)
+    → run_result r t' s' ≡ run wiring n (state_of (fresh_after n t) 0 0) schedule (take k lent)
     → watched_with (Ok r) (s' ++ drop k lent) ≡ carried_out wiring n schedule lent
 unfolding fresh_after shape_check
 carried wiring n t schedule lent r t' s' k shaped twice long fits e = pick (is_size n) refl

@@ -4,7 +4,7 @@ ghost use Rattle.table.specs.Sizes.{is_size};
 ghost use Rattle.table.specs.Table.{greatest_table, table_length};
 ghost use Rattle.table.specs.Fresh.{fresh_after};
 ghost use Rattle.plant.specs.Entry.{state_of};
-ghost use Rattle.plant.specs.Run.{outcome_with, run};
+ghost use Rattle.plant.specs.Run.{run_result, run};
 ghost use Rattle.input.specs.Input.{lines};
 ghost use Rattle.input.specs.Fault.{fault_in};
 ghost use Rattle.watch.specs.Watched.{watched_with, carried_out, watched, deciding};
@@ -66,7 +66,7 @@ fn run_fresh(
     sheet: &mut [u8],
 ) -> Ran
     ensures { let start = state_of (fresh_after size table.old) 0 0 in
-        outcome_with result table.new sheet.new ≡ run wiring size start schedule.now sheet.old }
+        run_result result table.new sheet.new ≡ run wiring size start schedule.now sheet.old }
 {
     let _ = fresh::fresh_table(size, table);
     run::run(wiring, size, table, Tally::default(), schedule, sheet)

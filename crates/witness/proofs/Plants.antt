@@ -21,8 +21,9 @@ use Rattle.detection.specs.Runs.{taken_all}
 use Rattle.detection.specs.Rounds.{all_taken}
 use Rattle.detection.specs.Claim.{worst_latency}
 use Rattle.witness.proofs.Slow.{Goes, stop, go, goes-append, Slow}
-use Rattle.lists.proofs.RefusalLaws.{by_check, check_zero}
-use Rattle.lists.specs.Refusal.{unless_refused, number_of_result}
+use Rattle.lists.proofs.RefusalLaws.{by_check, check_passed}
+use Rattle.lists.specs.Refusal.{unless_refused}
+use Rattle.std.specs.Result.{is_ok}
 
 -- a table with these boards crashed, so many rounds ago
 unfoldable pub crashed : ℕ → List ℕ → List ℕ → ℕ → List ℕ
@@ -58,7 +59,7 @@ arrival n s (i ∷ is) q e =
 abbrev described : ℕ → State → Bool
 described n s =
     is_size n && eqb (length s.table) (table_length n) && at_start n s.table && ltb 1 (live_count n s.table) && none_suspected n s.table
-    && eqb (number_of_result (table_check Cube n s.table)) 0
+    && is_ok (table_check Cube n s.table)
 
 -- board i is live and board j is not
 abbrev apart : ℕ → State → ℕ → ℕ → Bool
@@ -93,7 +94,7 @@ slow-plant n dead i j begun turns few a =
     let ends = both _ _ a.passes in (
       record {
         first = s;
-        ok = check_zero _ (eqb-true _ 0 checks.1);
+        ok = check_passed _ checks.1;
         premises = record {
           size = sized.0;
           long = eqb-true _ _ sized.1;

@@ -1,2 +1,3 @@
 -- The laws that the proofs of `words` share.
+pub mod SameLaws
 pub mod WordLaws

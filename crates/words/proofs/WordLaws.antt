@@ -76,7 +76,7 @@ neither (suc a) b =
     ∙ sym (ap (λ (t : Bool). t && eqb b 0) (ne_eqb (suc a) 0 (λ e. omega arith)))
 
 -- a word of bytes, the lowest first
-abbrev digits : (ℕ → ℕ) → ℕ → ℕ
+abbrev pub digits : (ℕ → ℕ) → ℕ → ℕ
 digits f zero = 0
 digits f (suc n) = f 0 + 256 * digits (λ j. f (suc j)) n
 
@@ -134,7 +134,7 @@ bits-of f (suc n) (suc m) l small =
     ap (λ (x : ℕ). eqb x 0) (ap₂ bit_and w h ∙ b) ∙ both_zero (bit_and rest mask) (bit_and (f 0) 254)
     ∙ ap₂ ◌&&◌ (bit_byte (f 0) (small 0)) (bits-of (λ j. f (suc j)) n m (omega arith) (λ k. small (suc k))) ∙ sym (every-head (λ k. leb (f k) 1) n)
 
-digits-same : (f g : ℕ → ℕ) (n : ℕ) → ((j : ℕ) → j < n → f j ≡ g j) → digits f n ≡ digits g n
+pub digits-same : (f g : ℕ → ℕ) (n : ℕ) → ((j : ℕ) → j < n → f j ≡ g j) → digits f n ≡ digits g n
 digits-same f g zero e = refl
 digits-same f g (suc n) e =
     let a = e 0 (omega arith) in let b = digits-same (λ j. f (suc j)) (λ j. g (suc j)) n (λ j h. e (suc j) (omega arith)) in omega arith
@@ -173,14 +173,20 @@ chunk-at n (suc c) t d (suc k) p h e =
 abbrev pub Seen : List ℕ → ℕ → ℕ → Type 0
 Seen t all p = eqb (bit_and all 0xFEFE_FEFE_FEFE_FEFE) 0 ≡ every (is_bit_at t) p
 
+-- word k of a list
+pub chunk-read : (t : List ℕ) (ws : List (List ℕ)) (k w : ℕ) → ws ≡ first_chunks 8 (length t / 8) t → length ws ≡ length t / 8
+    → k < length ws → w ≡ from_le_bytes w64 (get_or ws k []) → w ≡ digits (from t (k * 8)) 8
+chunk-read t ws k w f n h e =
+    let c : get_or ws k [] ≡ take 8 (drop (k * 8) t) =
+    ap (λ (x : List (List ℕ)). get_or x k []) f ∙ chunk-at 8 (length t / 8) t [] k (k * 8) (omega arith) refl in
+    read_8 t (k * 8) w (e ∙ ap (from_le_bytes w64) c)
+
 pub word-next : (t : List ℕ) (ws : List (List ℕ)) (k all w : ℕ) → ((i : ℕ) → Fits w8 (get_or t i 0)) → ws ≡ first_chunks 8 (length t / 8) t
     → length ws ≡ length t / 8 → k < length ws → Seen t all (k * 8) → w ≡ from_le_bytes w64 (get_or ws k [])
     → Seen t (bit_or all w) ((k + 1) * 8)
 word-next t ws k all w typed f n h before e =
     let p : k * 8 + 8 ≡ (k + 1) * 8 = omega arith in
-    let c : get_or ws k [] ≡ take 8 (drop (k * 8) t) =
-    ap (λ (x : List (List ℕ)). get_or x k []) f ∙ chunk-at 8 (length t / 8) t [] k (k * 8) (omega arith) refl in
-    let r : w ≡ digits (from t (k * 8)) 8 = read_8 t (k * 8) w (e ∙ ap (from_le_bytes w64) c) in
+    let r : w ≡ digits (from t (k * 8)) 8 = chunk-read t ws k w f n h e in
     subst (Seen t (bit_or all w)) p (bits-next t all w (k * 8) 8 (omega arith) (λ j. (typed j).fits) before r)
 
 pub byte-next : (t : List ℕ) (k all : ℕ) → ((i : ℕ) → Fits w8 (get_or t i 0)) → Seen t all k → Seen t (bit_or all (get_or t k 0)) (k + 1)
@@ -205,6 +211,13 @@ every-joined q p a m l h = same-when _ _
     same-when false true f g = g refl
     same-when false false f g = refl
 
+-- the last eight bytes
+pub last-read : (t b : List ℕ) (w : ℕ) → 8 ≤ length t → b ≡ drop (length t - 8) t → w ≡ from_le_bytes w64 b → w ≡ digits (from t (length t - 8)) 8
+last-read t b w l e r =
+    let a = length t - 8 in
+    let d : b ≡ take 8 (drop a t) = e ∙ sym (take_all 8 (drop a t) (omega (arith, length-drop a t))) in
+    read_8 t a w (r ∙ ap (from_le_bytes w64) d)
+
 -- the last eight bytes, of which some may have been passed
 pub last-done : (t b : List ℕ) (c k all w : ℕ) → ((i : ℕ) → Fits w8 (get_or t i 0)) → 8 ≤ length t → b ≡ drop (length t - 8) t
     → c ≡ length t / 8 → c ≤ k → k ≤ c → Seen t all (k * 8) → w ≡ from_le_bytes w64 b
@@ -213,8 +226,7 @@ unfolding are_bits
 last-done t b c k all w typed l e n h g before r =
     let a = length t - 8 in
     let z : a + 8 ≡ length t = omega arith in
-    let d : b ≡ take 8 (drop a t) = e ∙ sym (take_all 8 (drop a t) (omega (arith, length-drop a t))) in
-    let v : w ≡ digits (from t a) 8 = read_8 t a w (r ∙ ap (from_le_bytes w64) d) in
+    let v : w ≡ digits (from t a) 8 = last-read t b w l e r in
     ap (λ (x : ℕ). eqb x 0) (and-or all w 0xFEFE_FEFE_FEFE_FEFE) ∙ neither (bit_and all 0xFEFE_FEFE_FEFE_FEFE) (bit_and w 0xFEFE_FEFE_FEFE_FEFE)
     ∙ ap₂ ◌&&◌ before (ap (λ (x : ℕ). eqb (bit_and x 0xFEFE_FEFE_FEFE_FEFE) 0) v ∙ bits-of (from t a) 8 8 (omega arith) (λ j. (typed (a + j)).fits))
     ∙ every-joined (is_bit_at t) (k * 8) a 8 (omega arith) (omega arith) ∙ ap (every (is_bit_at t)) z

@@ -7,6 +7,7 @@ use std::env;
 use std::process::ExitCode;
 
 pub mod detection;
+pub mod expert;
 pub mod grants;
 pub mod measure;
 pub mod one_dead;

@@ -9,11 +9,11 @@ use Rattle.granter.proofs.DriveLaws.{end-stop, drives-on, full-stop}
 use Rattle.granter.proofs.drive.drive_on.Goals as goal
 use Rattle.granter.proofs.drive.drive_on.Goals.{then-is_full, else-is_full+then-ended}
 
-pub loop-wiring-init : goal.loop-wiring-init
+pub loop-tally-init : goal.loop-tally-init
 unfolding after_grants
-loop-wiring-init c =
+loop-tally-init c =
     record {
-      loan = record { reference = refl; size = refl };
+      loan = record { reference = refl; wiring = refl; size = refl };
       below = c.requires.last_below;
       led = refl;
       driving = driving-start _ _ _ _ (grantable _ _ _ _ c.requires.taken);
@@ -21,33 +21,37 @@ loop-wiring-init c =
 
 pub next_station-i-requires : goal.next_station-i-requires
 next_station-i-requires c =
-    let l = c.loop-wiring.invariant in
+    let l = c.loop-tally.invariant in
     let r = grant-ready _ _ _ _ _ l.led l.driving in
     rw (c.read.ensures.same_size, c.read.ensures.same_bytes, l.loan.size) (record { round_open = r.0; someone_live = r.1; last_below = l.below })
 
 pub take_turn-held-requires : goal.take_turn-held-requires
 take_turn-held-requires c =
-    let l = c.loop-wiring.invariant in
+    let l = c.loop-tally.invariant in
     let r = turn-ready _ _ _ _ _ l.led l.driving (sym c.is_full.ensures ∙ c.if-is_full.false) in
     let next = rw (c.read.ensures.same_size, c.read.ensures.same_bytes, l.loan.size) at c.next_station-i.ensures in
-    rw l.loan.size (record { table_obeys = r.0; turn_taken = rw next r.1 })
+    rw (l.loan.wiring, l.loan.size) (record { table_obeys = r.0; turn_taken = rw next r.1 })
 
-pub loop-wiring-smaller : goal.loop-wiring-smaller
-loop-wiring-smaller c = omega (arith, next-within _ _ _ _ c.loop-wiring.invariant.driving)
+pub loop-tally-smaller : goal.loop-tally-smaller
+loop-tally-smaller c = omega (arith, next-within _ _ _ _ c.loop-tally.invariant.driving)
 
-pub loop-wiring-preserved : goal.loop-wiring-preserved
-loop-wiring-preserved c =
-    let l = c.loop-wiring in
+pub loop-tally-preserved : goal.loop-tally-preserved
+loop-tally-preserved c =
+    let l = c.loop-tally in
     let i = l.invariant in
     let q = stand_at (state_with l.table.bytes.now l.held) (last_number l.before) in
     let fits = sym c.is_full.ensures ∙ c.if-is_full.false in
     let next = rw (c.read.ensures.same_size, c.read.ensures.same_bytes, i.loan.size) at c.next_station-i.ensures in
     let t = c.take_turn-held.ensures in
-    let turned = turned-is _ _ q _ _ next (rw i.loan.size at t.state_after) in
-    let r = c.read-in-loop-wiring.ensures in
+    let turned = turned-is _ _ q _ _ next (rw (i.loan.wiring, i.loan.size) at t.state_after) in
+    let r = c.read-in-loop-tally.ensures in
     let open-still = rw (r.same_size, r.same_bytes, t.same_loan.size, i.loan.size) at (sym c.has_ended-ended.ensures ∙ c.if-ended.false) in
     record {
-      loan = record { reference = t.same_loan.reference ∙ i.loan.reference; size = t.same_loan.size ∙ i.loan.size };
+      loan = record {
+        reference = t.same_loan.reference ∙ i.loan.reference;
+        wiring = t.same_loan.wiring ∙ i.loan.wiring;
+        size = t.same_loan.size ∙ i.loan.size;
+      };
       below = rw next (granted-below _ _ _ _ q i.led i.driving);
       led = turned_on _ _ _ _ q i.led i.driving fits _ turned;
       driving = drives-on _ _ _ _ q i.led i.driving fits _ turned open-still;
@@ -55,7 +59,7 @@ loop-wiring-preserved c =
 
 pub returns : goal.returns
 returns c =
-    let l = c.loop-wiring in
+    let l = c.loop-tally in
     let i = l.invariant in
     let q = stand_at (state_with l.table.bytes.now l.held) (last_number l.before) in
     elim c.if-is_full.branch [
@@ -67,13 +71,17 @@ returns c =
           let fits = sym c.is_full.ensures ∙ w.if-is_full.false in
           let next = rw (w.read.ensures.same_size, w.read.ensures.same_bytes, i.loan.size) at w.next_station-i.ensures in
           let t = w.take_turn-held.ensures in
-          let turned = turned-is _ _ q _ _ next (rw i.loan.size at t.state_after) in
-          let r = w.read-in-loop-wiring.ensures in
+          let turned = turned-is _ _ q _ _ next (rw (i.loan.wiring, i.loan.size) at t.state_after) in
+          let r = w.read-in-loop-tally.ensures in
           let over = rw (r.same_size, r.same_bytes, t.same_loan.size, i.loan.size) at (sym w.has_ended-ended.ensures ∙ w.if-ended.true) in
           let stop = end-stop _ _ _ _ q i.led i.driving fits _ turned over in
           rw (c.last_number.ensures, w.table-is, w.held-is, w.before-is, w.grants-is, w.stopped-is)
           (record {
-            same_loan = record { reference = t.same_loan.reference ∙ i.loan.reference; size = t.same_loan.size ∙ i.loan.size };
+            same_loan = record {
+              reference = t.same_loan.reference ∙ i.loan.reference;
+              wiring = t.same_loan.wiring ∙ i.loan.wiring;
+              size = t.same_loan.size ∙ i.loan.size;
+            };
             outcome = stop.0;
             stopped = stop.1;
           })

@@ -1,6 +1,6 @@
 -- On the cube the turns are those by the row of the dead boards.
 use Rattle.std.proofs.Common.{◌∙◌, ap, sym}
-use Rattle.latency.specs.Figures.{turns_by_row}
+use Rattle.latency.specs.Turns.{turns_by_row}
 use Rattle.latency.proofs.WaitLaws.{turns-on-cube}
 use Rattle.latency.proofs.wait.turns_per_round.Goals as goal
 

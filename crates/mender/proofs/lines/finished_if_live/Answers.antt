@@ -5,7 +5,7 @@ use Rattle.mender.proofs.lines.finished_if_live.Goals as goal
 
 pub returns : goal.returns
 returns c =
-    let w = c.args.wiring in
+    let w = c.args.table.now.wiring in
     let n = c.args.table.now.n in
     let t = c.args.table.now.bytes.now in
     rw (lines_live w n t c.args.i.0 c.requires, lines_finished w n t c.args.i.0 c.requires)

@@ -8,7 +8,7 @@ pub loop-i-preserved : goal.loop-i-preserved
 loop-i-preserved c =
     let i = c.loop-i.invariant in
     let live = c.is_live-some.ensures
-    ∙ sym (lines_live c.args.wiring c.args.table.now.n c.args.table.now.bytes.now c.loop-i.i c.loop-i-test.true) in
+    ∙ sym (lines_live c.args.table.now.wiring c.args.table.now.n c.args.table.now.bytes.now c.loop-i.i c.loop-i-test.true) in
     record {
       done = every-next _ _ _ i.done c.finished_if_live.ensures (ap not c.if-not-finished_if_live.false);
       seen = some_next _ _ _ _ i.seen (ap not live);

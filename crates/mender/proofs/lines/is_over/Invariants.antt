@@ -7,6 +7,6 @@ use Rattle.mender.proofs.lines.is_over.Given as goal
 
 abbrev pub invariant-loop-i : goal.invariant-loop-i
 invariant-loop-i l = record {
-  done : every (finished_if_live l.table.n (lines_mended l.wiring l.table.n l.table.bytes.now)) l.i ≡ true;
-  seen : l.some ≡ not (every (not_live l.table.n (lines_mended l.wiring l.table.n l.table.bytes.now)) l.i);
+  done : every (finished_if_live l.table.n (lines_mended l.table.wiring l.table.n l.table.bytes.now)) l.i ≡ true;
+  seen : l.some ≡ not (every (not_live l.table.n (lines_mended l.table.wiring l.table.n l.table.bytes.now)) l.i);
 }

@@ -8,5 +8,5 @@ returns c =
     let status = c.from.ensures ∙ c.mended_status-status.ensures ∙ rw c.get.ensures refl in
     let by = c.mended_told_by-by.ensures ∙ rw (c.mended_status-status.ensures, c.get.ensures, c.get-2.ensures) refl in
     let ago = c.mended_rounds_ago-ago.ensures ∙ rw (by, c.mended_status-status.ensures, c.get.ensures, c.get-3.ensures) refl in
-    head-is c.args.wiring c.args.table.now.n c.args.table.now.bytes.now c.args.over c.args.i.0
+    head-is c.args.table.now.wiring c.args.table.now.n c.args.table.now.bytes.now c.args.over c.args.i.0
     c.from.result c.mended_told_by-by.result c.mended_rounds_ago-ago.result c.mended_pass.result status c.mended_pass.ensures by ago

@@ -21,10 +21,17 @@ slice_bounds-own-end-2 c =
     let size = (old_right c.args.file.now c.args.buffer.now _ c.in_ok-opened.ensures).1 in
     sym (length-take-le _ _ (omega (arith, c.table_length.ensures, table_fits _ size)))
 
+pub end_byte-end-requires : goal.end_byte-end-requires
+end_byte-end-requires c = (old_right c.args.file.now c.args.buffer.now _ c.in_ok-opened.ensures).1
+
 pub invariant_of-build_table : goal.invariant_of-build_table
 invariant_of-build_table c =
     let size = (old_right c.args.file.now c.args.buffer.now _ c.in_ok-opened.ensures).1 in
-    record { sized = size; fits = length-take-le _ _ (omega (arith, c.table_length.ensures, table_fits _ size)) ∙ c.table_length.ensures }
+    record {
+      sized = size;
+      last_of_pass = c.end_byte-end.ensures;
+      fits = length-take-le _ _ (omega (arith, c.table_length.ensures, table_fits _ size)) ∙ c.table_length.ensures;
+    }
 
 pub build_table-requires : goal.build_table-requires
 build_table-requires c = (old_right c.args.file.now c.args.buffer.now _ c.in_ok-opened.ensures).0

@@ -15,7 +15,7 @@ pub loop-field-init : goal.loop-field-init
 loop-field-init c =
     let b = size-bounds _ c.args.table.now.sized in
     record {
-      same = record { reference = refl; size = refl };
+      same = record { reference = refl; wiring = refl; size = refl };
       whole = c.requires;
       wide = length-replicate 64 false;
       passed = passed_none _ _ _ _ _ (λ i h. get_or-replicate {A = Bool} 64 i false false (omega arith));
@@ -51,7 +51,7 @@ loop-field-preserved c =
     let e = ensure_ok _ _ _ (sym (rw i.same.size at c.in_ok-take_line.ensures.check)) in
     let b = rw i.same.size at (c.in_ok-take_line.ensures.line_written refl) in
     record {
-      same = record { reference = s.reference ∙ i.same.reference; size = s.size ∙ i.same.size };
+      same = record { reference = s.reference ∙ i.same.reference; wiring = s.wiring ∙ i.same.wiring; size = s.size ∙ i.same.size };
       whole = t.0 ∙ i.whole;
       wide = c.type_inv.seen;
       passed = rw (b, c.in_ok-take_line.ensures.station_seen refl) (passed_more _ _ _ _ _ _ _ p e wide long);

@@ -14,6 +14,7 @@ slice_bounds-own-end-2 c = sym (length-take-le _ _ (omega (arith, c.table_length
 pub invariant_of-build_table : goal.invariant_of-build_table
 invariant_of-build_table c = record {
   sized = c.requires.is_a_size;
+  last_of_pass = c.end_byte-end.ensures;
   fits = length-take-le _ _ (omega (arith, c.table_length.ensures, table_fits _ c.requires.is_a_size)) ∙ c.table_length.ensures;
 }
 

@@ -1,7 +1,7 @@
 -- The row suspects nobody.
 use Rattle.std.proofs.Common.{ap, ◌∙◌}
 use Rattle.std.proofs.lemmas.List.{take-replicate}
-use Rattle.latency.specs.Figures.{most_until_known}
+use Rattle.latency.specs.Turns.{most_until_known}
 use Rattle.sheet.proofs.sizes.most_until_known.Goals as goal
 
 pub returns : goal.returns

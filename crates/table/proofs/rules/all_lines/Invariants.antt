@@ -5,4 +5,4 @@ use Rattle.table.specs.Rules.{line_rules}
 use Rattle.table.proofs.rules.all_lines.Given as goal
 
 abbrev pub invariant-loop-i : goal.invariant-loop-i
-invariant-loop-i l = every (line_rules l.wiring l.table.n l.table.bytes.now) l.i ≡ true
+invariant-loop-i l = every (line_rules l.table.wiring l.table.n l.table.bytes.now) l.i ≡ true

@@ -1,20 +1,20 @@
 //! Entries per second of the run, drives per second, and calls per second of the
 //! figures, of the doubt lamp, of mendings, of saves, loads and slots, and of the reading
-//! of inputs: the library, and plain Rust over the same bytes.
+//! of inputs: the library, and plain Rust over the same bytes; runs beside an expert's form too.
 //!
 //! `bench` prints the tables; `--quick` repeats less. Before anything is timed both must
 //! give the same answers and bytes; else it says where not, and the status is 1.
 
 use bench::measure::Batch;
 use bench::work::{self, damaged, DAMAGES};
-use bench::{plain, plain_drive, plain_figures, plain_input, plain_lamp};
+use bench::{expert, plain, plain_drive, plain_figures, plain_input, plain_lamp};
 use bench::{plain_mend, plain_saved, plain_slot};
 use shared::random::Random;
 use shared::table::live_stations;
 use std::hint::black_box;
 use std::process::ExitCode;
 use vcube::{report_length, saved_length, table_length};
-use vcube::{Plant, Station, Tally, Wiring, SCHEDULE_LENGTH};
+use vcube::{Answer, Plant, Station, Tally, Wiring, SCHEDULE_LENGTH};
 
 const SEED: u64 = 1;
 const ENTRIES: usize = 4000;
@@ -38,6 +38,9 @@ const FEWER: usize = 3;
 
 type Times = Result<[f64; 2], String>;
 type Done = Result<(), String>;
+
+/// A run: wiring, n, table, tally, schedule and sheet.
+type Run = fn(Wiring, usize, &mut [u8], &mut Tally, &[u8], &mut [u8]) -> Answer;
 
 fn main() -> ExitCode {
     bench::run("bench", |quick| print_tables(if quick { QUICK_REPETITIONS } else { REPETITIONS }))
@@ -66,7 +69,9 @@ fn print_wired(wiring: Wiring, repetitions: usize, fewer: usize) -> Done {
         Wiring::Ring => (&RING_SIZES[..], &RING_SIZES[..]),
     };
     compare_exits(wiring, sizes)?;
-    print_long_runs(wiring, sizes, repetitions)?;
+    print_long_runs("Many rounds", wiring, sizes, repetitions, ("plain Rust", plain::run))?;
+    let expert = ("an expert's form", expert::run as Run);
+    print_long_runs("Many rounds beside an expert's form", wiring, sizes, repetitions, expert)?;
     print_empty_runs(wiring, sizes, fewer)?;
     print_drives(wiring, sizes, fewer)?;
     print_lamps(wiring, few_sizes, fewer)?;
@@ -76,12 +81,17 @@ fn print_wired(wiring: Wiring, repetitions: usize, fewer: usize) -> Done {
 /// The head of a table: what is timed, what is to be known of it, and the columns before
 /// those of the speeds.
 fn print_head(title: &str, wiring: Wiring, text: &str, columns: &str) {
+    print_head_beside("plain Rust", title, wiring, text, columns);
+}
+
+/// The same beside something else than plain Rust.
+fn print_head_beside(other: &str, title: &str, wiring: Wiring, text: &str, columns: &str) {
     let on = match wiring {
         Wiring::Cube => "",
         Wiring::Ring => ", on the ring",
     };
     println!("\n{title}{on}\n\n{text}\n");
-    println!("| {columns} | library | plain Rust | library / plain |");
+    println!("| {columns} | library | {other} | library / {other} |");
     println!("|--:{}|", "|--:".repeat(columns.matches('|').count() + 3));
 }
 
@@ -100,14 +110,20 @@ fn with_dead(sizes: &[usize]) -> impl Iterator<Item = (usize, usize)> + '_ {
     sizes.iter().flat_map(|n| [(*n, 0), (*n, n / 4), (*n, n / 2)])
 }
 
-fn print_long_runs(wiring: Wiring, sizes: &[usize], repetitions: usize) -> Done {
+fn print_long_runs(
+    title: &str,
+    wiring: Wiring,
+    sizes: &[usize],
+    repetitions: usize,
+    (name, other): (&str, Run),
+) -> Done {
     let text = format!("Entries of a run of {ENTRIES} over many rounds. Once the dead are known, all rows are the same.");
-    print_head("Many rounds", wiring, &text, "n | dead");
+    print_head_beside(name, title, wiring, &text, "n | dead");
     for (n, dead) in with_dead(sizes) {
         let mut random = Random::new(SEED);
         let plant = work::with_dead(wiring, n, dead, &mut random);
         let schedule = work::turns(&plant, ENTRIES, &mut random);
-        let times = time_runs(&[(plant, schedule)], repetitions)?;
+        let times = time_runs(&[(plant, schedule)], repetitions, other)?;
         print_row(&format!("{n} | {dead}"), thousands(ENTRIES), times);
     }
     Ok(())
@@ -118,7 +134,7 @@ fn print_empty_runs(wiring: Wiring, sizes: &[usize], repetitions: usize) -> Done
     print_head("An empty schedule", wiring, &text, "n | dead");
     for n in sizes {
         let works = vec![(work::without(wiring, *n, &[]), Vec::new()); RUNS];
-        let times = time_runs(&works, repetitions)?;
+        let times = time_runs(&works, repetitions, plain::run)?;
         print_row(&format!("{n} | 0"), thousands(RUNS), times);
     }
     Ok(())
@@ -134,11 +150,12 @@ fn compare_exits(wiring: Wiring, sizes: &[usize]) -> Done {
     };
     let sizes = sizes.iter().flat_map(|n| [*n; RUNS]);
     let works: Vec<_> = sizes.map(&mut run).collect();
-    time_runs(&works, 0).map(|_| ())
+    time_runs(&works, 0, plain::run)?;
+    time_runs(&works, 0, expert::run).map(|_| ())
 }
 
 /// Of plants and schedules, of which all entries must be taken.
-fn time_runs(works: &[(Plant, Vec<u8>)], repetitions: usize) -> Times {
+fn time_runs(works: &[(Plant, Vec<u8>)], repetitions: usize, other: Run) -> Times {
     let longest = works.iter().map(|(_, schedule)| 2 * schedule.len()).max();
     let batch = Batch::new(works, |(plant, _)| plant.table().to_vec(), longest.unwrap_or(0));
     let taken = "all entries are taken";
@@ -153,7 +170,7 @@ fn time_runs(works: &[(Plant, Vec<u8>)], repetitions: usize) -> Times {
         |(plant, schedule), table, sheet| {
             let (mut tally, sheet) = (Tally::default(), &mut sheet[..2 * schedule.len()]);
             let (wiring, n) = (plant.wiring(), plant.size());
-            let answer = plain::run(wiring, n, table, &mut tally, schedule, sheet);
+            let answer = other(wiring, n, table, &mut tally, schedule, sheet);
             (answer.result().expect(taken), tally)
         },
     )

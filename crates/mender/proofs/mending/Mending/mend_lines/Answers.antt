@@ -6,7 +6,7 @@ use Rattle.mender.proofs.Progress.{head-put, row-put, row-skip, line-next, all-d
 use Rattle.mender.proofs.mending.Mending.mend_lines.Goals as goal
 
 pub loop-i-init : goal.loop-i-init
-loop-i-init c = reached-start c.args.wiring c.args.over c.args.self.now c.requires
+loop-i-init c = reached-start c.args.over c.args.self.now c.requires
 
 pub put-requires-clause-inside : goal.put-requires-clause-inside
 put-requires-clause-inside c =
@@ -21,7 +21,7 @@ loop-c-preserved c =
     let e = c.put.ensures in
     let line = c.line_start-line.ensures.start_of_line in
     let byte = head-put c.loop-i.i c.loop-c.c c.read.result c.mended_head-head.result c.loop-i.invariant c.loop-i-test.true
-    (omega (arith, c.loop-c-test.true)) c.read.ensures.same_size c.read.ensures.same_bytes c.mended_head-head.ensures in
+    (omega (arith, c.loop-c-test.true)) c.read.ensures.same_wiring c.read.ensures.same_size c.read.ensures.same_bytes c.mended_head-head.ensures in
     reached-next (line_start c.args.self.now.n c.loop-i.i + (c.loop-c.c + 1)) c.loop-c.invariant (omega (arith, line)) (omega arith) byte
     e.same_mending e.byte_written e.change_listed e.change_counted
 

@@ -2,7 +2,7 @@
 use Rattle.std.proofs.Common.{◌≤◌, ◌-◌, arith}
 use native.Mathlib.Nat.{mul-le-mul}
 use Rattle.latency.proofs.RowFigures.{dimension-most}
-use Rattle.latency.proofs.figures.worst_rounds.Goals as goal
+use Rattle.latency.proofs.turns.worst_rounds.Goals as goal
 
 pub returns-clause-upper_bound : goal.returns-clause-upper_bound
 returns-clause-upper_bound c =

@@ -1,8 +1,8 @@
 -- The greatest of those asked so far.
 use Rattle.std.proofs.Common.{arith}
 use Rattle.slots.proofs.MostLaws.{greatest-none, greatest-one, greatest-all}
-use Rattle.latency.specs.Figures.{most_until_known}
-use Rattle.latency.proofs.figures.most_until_known.Goals as goal
+use Rattle.latency.specs.Turns.{most_until_known}
+use Rattle.latency.proofs.turns.most_until_known.Goals as goal
 
 pub loop-j-init : goal.loop-j-init
 loop-j-init c = greatest-none _ _

@@ -1,10 +1,10 @@
-// The figures of the commissioning sheet, on the cube (specs/Figures.antt): after how many turns one more dead board is known everywhere. Of a
+// The figures of the commissioning sheet, on the cube (specs/Turns.antt): after how many turns one more dead board is known everywhere. Of a
 // driven plant each grant is a turn. Size and row stand side by side, as in `slots`.
 
 ghost use Rattle.std.specs.Prelude.{◌≡◌, ◌≤◌, ◌*◌};
 ghost use Rattle.table.specs.Sizes.{dimension};
 ghost use Rattle.detection.specs.Claim.{worst_latency};
-ghost use Rattle.latency.specs.Figures.{turns_of, turns_by_row, known_with, most_until_known, FiguresCover};
+ghost use Rattle.latency.specs.Turns.{turns_of, turns_by_row, known_with, most_until_known, FiguresCover};
 
 use station::{due, rows};
 use table::{Station, sizes};
@@ -29,7 +29,7 @@ pub fn most_until_known(n: u8, row: &mut [u8]) -> u32
 }
 
 // The same where board j dies; 0 where it is dead already. The row is as before afterwards.
-#[tactic(auto, unfolding(crate::specs::Figures::known_with))]
+#[tactic(auto, unfolding(crate::specs::Turns::known_with))]
 fn known_with(n: u8, row: &mut [u8], j: Station) -> u32
     ensures turns { result ≡ known_with n row.old j.0 }
     ensures row_unchanged { row.new ≡ row.old }
@@ -71,7 +71,7 @@ pub(crate) fn turns_by_row(n: u8, row: &[u8]) -> u32
 }
 
 // The turns of board i in a round: its tests and the one that finishes its pass, if it is live.
-#[tactic(auto, unfolding(crate::specs::Figures::turns_of))]
+#[tactic(auto, unfolding(crate::specs::Turns::turns_of))]
 fn turns_of(n: u8, row: &[u8], i: Station) -> u32
     ensures turns { result ≡ turns_of n row.now i.0 }
     ensures upper_bound { result ≤ 256 }

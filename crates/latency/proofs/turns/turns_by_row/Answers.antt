@@ -3,8 +3,8 @@ use Rattle.std.proofs.Common.{◌≡◌, ◌+◌, refl, arith}
 use Prim.Native.Nat.{suc}
 use Rattle.lists.specs.Sums.{sum_below}
 use Rattle.lists.proofs.SumLaws.{sum_below-suc}
-use Rattle.latency.specs.Figures.{turns_of, turns_by_row}
-use Rattle.latency.proofs.figures.turns_by_row.Goals as goal
+use Rattle.latency.specs.Turns.{turns_of, turns_by_row}
+use Rattle.latency.proofs.turns.turns_by_row.Goals as goal
 
 pub loop-i-init : goal.loop-i-init
 unfolding sum_below

@@ -3,7 +3,7 @@ use Rattle.std.proofs.Common.{sym, ◌∙◌, arith}
 use Rattle.station.proofs.EntryLaws.{unsuspected-below}
 use Rattle.station.proofs.UnionLaws.{mark-length}
 use Rattle.slots.proofs.MostLaws.{mark-back}
-use Rattle.latency.proofs.figures.known_with.Goals as goal
+use Rattle.latency.proofs.turns.known_with.Goals as goal
 
 pub bounds-row-at : goal.bounds-row-at
 bounds-row-at c = unsuspected-below c.args.row.now c.args.j.0 (sym c.is_unsuspected.ensures ∙ c.if-not-is_unsuspected.false)
