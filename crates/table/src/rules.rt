@@ -1,9 +1,9 @@
 // The line rules and the check of a table: refusals 1 to 4.
 // Within a line bools are joined by `&` and `|`, which make no branch; an `if` stands where a branch is faster.
-ghost use Rattle.std.specs.Prelude.{◌≡◌, ◌<◌, length, slice_index};
+ghost use Rattle.std.specs.Prelude.{◌≡◌, ◌<◌, ◌&&◌, length, slice_index};
 ghost use Rattle.lists.specs.Search.{every};
 ghost use Rattle.table.specs.Status.{status_byte};
-ghost use Rattle.table.specs.Rules.{pass_rule, exit_rule, row_rule_by, line_rules, shape_check, table_check};
+ghost use Rattle.table.specs.Rules.{status_rule, pass_rule, exit_rule, row_rule_by, line_rules, shape_check, table_check};
 
 use crate::lent::Table;
 use crate::status::Status;
@@ -46,24 +46,22 @@ pub(crate) fn all_lines(table: &Table) -> bool
     true
 }
 
-#[tactic(auto, using(crate::proofs::StatusLaws::status_ok, crate::proofs::StatusLaws::status_err), unfolding(crate::specs::Rules::line_rules))]
+#[tactic(auto, unfolding(crate::specs::Rules::line_rules))]
 fn line_rules(table: &Table, i: Station) -> bool
     requires { i.0 < table.now.n }
     ensures { result
         ≡ line_rules table.now.wiring table.now.n table.now.bytes.now i.0 }
 {
-    let Ok(status) = Status::try_from(table.get(i, cells::STATUS)) else {
-        return false;
-    };
     let next = table.get(i, cells::NEXT);
     let finished = table.get(i, cells::FINISHED);
     let tests = table.get(i, cells::TESTS);
     if !pass_rule(table.end, next, finished, tests) {
         return false;
     }
+    let status = table.get(i, cells::STATUS);
     let by = table.get(i, cells::TOLD_BY);
     let ago = table.get(i, cells::ROUNDS_AGO);
-    if !exit_rule(table.n, i, status, by, ago) {
+    if !status_and_exit_rule(table.n, i, status, by, ago) {
         return false;
     }
     table.keeps_row_rule(i)
@@ -79,7 +77,21 @@ pub fn pass_rule(end: u8, next: u8, finished: u8, tests: u8) -> bool
     if next <= tests {
         return false;
     }
-    (finished == 0) | ((finished == 1) & (next == end))
+    finished <= (next == end) as u8
+}
+
+// The rules of bytes 0, 4 and 5. Most lines are of a live station that nobody told: that is asked first.
+#[tactic(auto, using(crate::proofs::StatusLaws::status_ok, crate::proofs::StatusLaws::status_err), unfolding(crate::specs::Rules::exit_rule))]
+fn status_and_exit_rule(n: u8, i: Station, status: u8, by: u8, ago: u8) -> bool
+    ensures { result ≡ (status_rule status && exit_rule n i.0 status by ago) }
+{
+    if (status == 0) & (by == cells::TOLD_BY_NONE) & (ago == 0) {
+        return true;
+    }
+    let Ok(status) = Status::try_from(status) else {
+        return false;
+    };
+    exit_rule(n, i, status, by, ago)
 }
 
 // The rules of bytes 4 and 5, by the status. Byte 4 is asked first, since most often it is 255, and the rest makes no branch.
