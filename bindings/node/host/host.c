@@ -8,6 +8,7 @@
 #include <netinet/in.h>
 #include <poll.h>
 #include <signal.h>
+#include <stdarg.h>
 #include <stdlib.h>
 #include <string.h>
 #include <sys/prctl.h>
@@ -48,13 +49,35 @@ void host_signals(void)
     sigaction(SIGTERM, &action, NULL);
     signal(SIGINT, SIG_IGN);
     signal(SIGHUP, SIG_IGN);
+    signal(SIGPIPE, SIG_IGN);
     prctl(PR_SET_PDEATHSIG, SIGKILL);
 }
 
-static void fail(const char *what, const char *name)
+void host_fail(const char *what, const char *name)
 {
     fprintf(stderr, "%s: %s: %s\n", what, name, strerror(errno));
     exit(1);
+}
+
+void host_write_out(FILE *file, const char *name)
+{
+    if (fflush(file) == 0 && !ferror(file))
+        return;
+    if (errno == EPIPE)
+        exit(0);
+    host_fail("it cannot be written", name);
+}
+
+void host_say(const char *kind, const char *words, ...)
+{
+    va_list values;
+
+    printf("%lu %s ", (unsigned long)host_now(), kind);
+    va_start(values, words);
+    vprintf(words, values);
+    va_end(values);
+    putchar('\n');
+    host_write_out(stdout, "standard output");
 }
 
 uint32_t host_number(const char *text, uint32_t most)
@@ -90,12 +113,14 @@ size_t host_wiring(const char *name)
     exit(2);
 }
 
-void host_write_bytes(FILE *to, const uint8_t *bytes, size_t length)
+const char *host_digits(const uint8_t *bytes, size_t length)
 {
+    static char digits[2 * VCUBE_TABLE_LENGTH(VCUBE_MOST_STATIONS) + 1];
     size_t place;
 
     for (place = 0; place < length; place++)
-        fprintf(to, "%02x", bytes[place]);
+        sprintf(digits + 2 * place, "%02x", bytes[place]);
+    return digits;
 }
 
 /* Microseconds for which this process has slept because it was asked to. */
@@ -153,10 +178,8 @@ void host_tell_pause(const struct host_pauses *pauses)
 {
     const uint64_t now = host_clock(), should_run = now - pauses->ready_at, ran = run_time() - pauses->run_time;
 
-    if (pauses->longest > 0 && pauses->ready_at > 0 && should_run > ran + 1000 * (uint64_t)pauses->longest) {
-        printf("%lu paused %lu\n", (unsigned long)(uint32_t)(now / 1000), (unsigned long)((should_run - ran) / 1000));
-        fflush(stdout);
-    }
+    if (pauses->longest > 0 && pauses->ready_at > 0 && should_run > ran + 1000 * (uint64_t)pauses->longest)
+        host_say("paused", "%lu", (unsigned long)((should_run - ran) / 1000));
 }
 
 /* When the datagram had come that will be read next. */
@@ -211,7 +234,7 @@ static void open_udp(struct host *host, const char *port)
     hub.sin_port = htons((uint16_t)host_number(port, 65535));
     host->socket = socket(AF_INET, SOCK_DGRAM, 0);
     if (host->socket < 0 || connect(host->socket, (const struct sockaddr *)&hub, sizeof hub) != 0)
-        fail("no cable udp", port);
+        host_fail("no cable udp", port);
     setsockopt(host->socket, SOL_SOCKET, SO_RCVBUF, &room, sizeof room);
     setsockopt(host->socket, SOL_SOCKET, SO_TIMESTAMPNS, &yes, sizeof yes);
     for (tries = 0; tries < 100 && !is_over; tries++) {
@@ -225,7 +248,7 @@ static void open_udp(struct host *host, const char *port)
             return;
     }
     errno = ETIMEDOUT;
-    fail("no hub at port", port);
+    host_fail("no hub at port", port);
 }
 
 static void open_can(struct host *host, const char *interface)
@@ -236,10 +259,10 @@ static void open_can(struct host *host, const char *interface)
     place.can_family = AF_CAN;
     host->socket = socket(PF_CAN, SOCK_RAW, CAN_RAW);
     if (host->socket < 0)
-        fail("no SocketCAN", interface);
+        host_fail("no SocketCAN", interface);
     place.can_ifindex = (int)if_nametoindex(interface);
     if (place.can_ifindex == 0 || bind(host->socket, (const struct sockaddr *)&place, sizeof place) != 0)
-        fail("no cable can", interface);
+        host_fail("no cable can", interface);
 }
 
 void host_open(struct host *host, const char *name)
