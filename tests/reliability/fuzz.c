@@ -1,16 +1,23 @@
-/* Random bytes for six kinds of calls; the first byte chooses. Every buffer has memory of its own, of exactly its length, so that the sanitizer or
- * valgrind sees what is read or written beside it. What docs/RULES.md claims of the answers is checked. For libFuzzer; with -DALONE a program that
- * makes the calls of the files named. */
+/* Random bytes for six kinds of calls. Every buffer has memory of its own, of exactly its length, so that the sanitizer or valgrind sees what is read
+ * or written beside it. What docs/RULES.md claims of the answers is checked.
+ *
+ * For libFuzzer, with the kind in TARGET, the calls are those of the portable C, whose ways it sees, under other names (portable_vcube_load and so
+ * on); what the archive gives, from this file compiled again with -DBESIDE, has to be the same. With -DALONE it is a program that makes the calls of
+ * a kind and files, by the archive alone. */
 #include "vcube.h"
 
 #include <stdio.h>
 #include <stdlib.h>
 #include <string.h>
 
+#ifndef MOST
 #define MOST 64
+#endif
+#define NOTE(number) note(&(number), sizeof(number))
 
 static const uint8_t *next;
 static size_t left;
+static uint64_t given; /* all that the calls give, as one number (FNV-1a) */
 
 static void check(int is_so, const char *what)
 {
@@ -18,6 +25,18 @@ static void check(int is_so, const char *what)
         return;
     fprintf(stderr, "fuzz: not so: %s\n", what);
     abort();
+}
+
+static void note(const void *what, size_t length)
+{
+    for (size_t k = 0; k < length; k++)
+        given = (given ^ ((const uint8_t *)what)[k]) * UINT64_C(0x100000001b3);
+}
+
+static int accepts(uint8_t refusal)
+{
+    NOTE(refusal);
+    return refusal == VCUBE_ACCEPTED;
 }
 
 static uint8_t byte(void)
@@ -38,6 +57,12 @@ static uint8_t *bytes(size_t length)
     return it;
 }
 
+static void end(uint8_t *it, size_t length)
+{
+    note(it, length);
+    free(it);
+}
+
 /* Mostly a size. */
 static size_t size(void)
 {
@@ -46,99 +71,127 @@ static size_t size(void)
     return drawn % 8 == 0 ? drawn : 2 + drawn % 63;
 }
 
+static size_t table_length(size_t n)
+{
+    return n <= MOST ? VCUBE_TABLE_LENGTH(n) : 10;
+}
+
+static int is_valid(size_t wiring, size_t n, const uint8_t *table)
+{
+    size_t by, of;
+
+    return accepts(vcube_doubt_lamp(wiring, n, table, table_length(n), &by, &of));
+}
+
+/* Loads a file, and saves it again. */
+static int is_loaded(const uint8_t *saved, size_t length)
+{
+    uint32_t rounds = 0, tests = 0;
+    size_t n = 0, loaded = 0;
+    int is_accepted = accepts(vcube_saved_size(saved, length, &n));
+    uint8_t *const table = bytes(table_length(n)), *const again = bytes(length);
+
+    is_accepted &= accepts(vcube_load(saved, length, table, table_length(n), &loaded, &rounds, &tests));
+    if (is_accepted)
+        check(accepts(vcube_save(n, table, table_length(n), rounds, tests, again, length)) && loaded == n && memcmp(again, saved, length) == 0,
+              "One form");
+    NOTE(n);
+    NOTE(loaded);
+    NOTE(rounds);
+    NOTE(tests);
+    end(table, table_length(n));
+    end(again, length);
+    return is_accepted;
+}
+
 static void load(void)
 {
     const size_t length = left;
-    uint8_t *const saved = bytes(length), *const again = malloc(length), *table;
-    uint32_t rounds, tests;
-    size_t n = 0, loaded;
+    uint8_t *const saved = bytes(length);
 
-    vcube_saved_size(saved, length, &n);
-    table = malloc(VCUBE_TABLE_LENGTH(n));
-    if (vcube_load(saved, length, table, VCUBE_TABLE_LENGTH(n), &loaded, &rounds, &tests) == VCUBE_ACCEPTED) {
-        check(vcube_save(n, table, VCUBE_TABLE_LENGTH(n), rounds, tests, again, length) == VCUBE_ACCEPTED, "what was loaded is saved");
-        check(loaded == n && memcmp(again, saved, length) == 0, "One form");
-    }
-    free(table);
-    free(again);
-    free(saved);
+    is_loaded(saved, length);
+    end(saved, length);
 }
 
 static void convert(void)
 {
     const size_t length = left;
-    uint8_t *const old = bytes(length), *saved, *const table = malloc(VCUBE_TABLE_LENGTH(MOST));
-    uint32_t rounds, tests;
-    size_t made = 0, n = 0;
+    uint8_t *const old = bytes(length), *saved;
+    size_t made = 0;
 
-    vcube_converted_length(old, length, &made);
-    saved = malloc(made);
-    if (vcube_convert(old, length, saved, made) == VCUBE_ACCEPTED) {
-        check(vcube_saved_size(saved, made, &n) == VCUBE_ACCEPTED, "a converted file has a size");
-        check(vcube_load(saved, made, table, VCUBE_TABLE_LENGTH(n), &n, &rounds, &tests) == VCUBE_ACCEPTED, "it is loaded");
-    }
-    free(saved);
-    free(table);
-    free(old);
+    accepts(vcube_converted_length(old, length, &made));
+    saved = bytes(made);
+    if (accepts(vcube_convert(old, length, saved, made)))
+        check(is_loaded(saved, made), "a converted file is loaded");
+    end(saved, made);
+    end(old, length);
 }
 
 static void mend(void)
 {
-    const size_t wiring = byte() % 3, n = size(), length = n <= MOST ? VCUBE_TABLE_LENGTH(n) : 10;
-    uint8_t *const table = bytes(length), *const report = malloc(4 * length);
-    size_t changes, by, of;
+    const size_t wiring = byte() % 3, n = size(), length = table_length(n);
+    uint8_t *const table = bytes(length), *const report = bytes(4 * length);
+    size_t changes = 0;
 
-    if (vcube_mend(wiring, n, table, length, report, 4 * length, &changes) == VCUBE_ACCEPTED) {
-        check(vcube_doubt_lamp(wiring, n, table, length, &by, &of) == VCUBE_ACCEPTED, "Mended passes");
-        check(vcube_mend(wiring, n, table, length, report, 4 * length, &changes) == VCUBE_ACCEPTED && changes == 0, "Mended once");
+    if (accepts(vcube_mend(wiring, n, table, length, report, 4 * length, &changes))) {
+        NOTE(changes);
+        note(report, 4 * length);
+        check(is_valid(wiring, n, table), "Mended passes");
+        check(accepts(vcube_mend(wiring, n, table, length, report, 4 * length, &changes)) && changes == 0, "Mended once");
     }
-    free(report);
-    free(table);
+    end(report, 4 * length);
+    end(table, length);
 }
 
 static void read_input(void)
 {
     const size_t length = left;
-    uint8_t *const input = bytes(length), *const schedule = malloc(VCUBE_SCHEDULE_LENGTH), *const words = malloc(VCUBE_WORDS_LENGTH);
+    uint8_t *const input = bytes(length), *const schedule = bytes(VCUBE_SCHEDULE_LENGTH), *const words = bytes(VCUBE_WORDS_LENGTH);
     size_t n, entries, line;
 
-    check(vcube_read_input(input, length, schedule, VCUBE_SCHEDULE_LENGTH, words, VCUBE_WORDS_LENGTH, &n, &entries, &line) == VCUBE_ACCEPTED &&
-              2 * entries <= VCUBE_SCHEDULE_LENGTH && (line == 0) == (words[0] == 0), "words just of a line that cannot be read");
+    check(accepts(vcube_read_input(input, length, schedule, VCUBE_SCHEDULE_LENGTH, words, VCUBE_WORDS_LENGTH, &n, &entries, &line)) &&
+              2 * entries <= VCUBE_SCHEDULE_LENGTH && (line == 0) == (words[0] == 0),
+          "words just of a line that cannot be read");
     for (size_t k = 0; k < 2 * entries; k += 2)
         check(schedule[k] >= 1 && schedule[k] <= 3 && schedule[k + 1] <= 99, "an entry that was read");
-    free(words);
-    free(schedule);
-    free(input);
+    NOTE(n);
+    NOTE(line);
+    end(words, VCUBE_WORDS_LENGTH);
+    end(schedule, VCUBE_SCHEDULE_LENGTH);
+    end(input, length);
 }
 
 /* On a fresh table, or on any; then a drive. */
 static void run(void)
 {
-    const size_t wiring = byte() % 3, n = size(), length = n <= MOST ? VCUBE_TABLE_LENGTH(n) : 10;
+    const size_t wiring = byte() % 3, n = size(), length = table_length(n);
     const int is_fresh = byte() % 4 != 0;
     uint32_t rounds = byte() % 4 ? 0 : UINT32_MAX - byte(), tests = byte() % 4 ? 0 : UINT32_MAX - byte();
-    uint8_t *const table = bytes(is_fresh ? 0 : length), *const used = is_fresh ? calloc(length, 1) : table, *schedule, *sheet;
-    size_t scheduled, taken, last = VCUBE_NO_STATION, grants, by, of;
+    uint8_t *const table = is_fresh ? calloc(length, 1) : bytes(length), *schedule, *sheet;
+    size_t scheduled, taken = 0, last = VCUBE_NO_STATION, grants = 0;
     int was_valid;
 
     if (is_fresh)
-        vcube_fresh_table(wiring, n, used, length);
-    was_valid = vcube_doubt_lamp(wiring, n, used, length, &by, &of) == VCUBE_ACCEPTED;
+        accepts(vcube_fresh_table(wiring, n, table, length));
+    was_valid = is_valid(wiring, n, table);
     scheduled = left;
     schedule = bytes(scheduled);
     for (size_t k = 0; n > 0 && k + 1 < scheduled; k += 2) { /* mostly entries that there may be */
         schedule[k] = schedule[k] % 16 == 0 ? schedule[k] : schedule[k] % 16 == 1 ? VCUBE_KIND_CRASH : (uint8_t)(1 + schedule[k] % 16 / 12);
         schedule[k + 1] = schedule[k + 1] == 255 ? 255 : (uint8_t)(schedule[k + 1] % n);
     }
-    sheet = malloc(2 * scheduled);
-    vcube_run(wiring, n, used, length, &rounds, &tests, schedule, scheduled, sheet, 2 * scheduled, &taken);
-    vcube_drive(wiring, n, used, length, &rounds, &tests, &last, &grants);
-    check(2 * taken <= scheduled && was_valid == (vcube_doubt_lamp(wiring, n, used, length, &by, &of) == VCUBE_ACCEPTED), "a table stays valid");
-    free(sheet);
-    free(schedule);
-    if (is_fresh)
-        free(used);
-    free(table);
+    sheet = bytes(2 * scheduled);
+    accepts(vcube_run(wiring, n, table, length, &rounds, &tests, schedule, scheduled, sheet, 2 * scheduled, &taken));
+    accepts(vcube_drive(wiring, n, table, length, &rounds, &tests, &last, &grants));
+    check(2 * taken <= scheduled && was_valid == is_valid(wiring, n, table), "a table stays valid");
+    NOTE(rounds);
+    NOTE(tests);
+    NOTE(taken);
+    NOTE(last);
+    NOTE(grants);
+    end(sheet, 2 * scheduled);
+    end(schedule, scheduled);
+    end(table, length);
 }
 
 /* A board that hears anything. */
@@ -146,9 +199,9 @@ static void board(void)
 {
     const size_t wiring = 1 + byte() % 2, n = 2 + byte() % 63, own = byte() % n, length = VCUBE_LINE_LENGTH(n), packed = VCUBE_PACKED_LENGTH(n);
     uint8_t *const line = malloc(length);
-    size_t outcome;
+    size_t outcome = 0;
 
-    check(vcube_board_fresh(wiring, n, own, line, length) == VCUBE_ACCEPTED, "a fresh line");
+    check(accepts(vcube_board_fresh(wiring, n, own, line, length)), "a fresh line");
     while (left > 0) {
         const uint8_t call = byte() % 6, other = byte();
         uint8_t *const row = bytes(packed), error;
@@ -159,36 +212,61 @@ static void board(void)
                 : call == 3 ? vcube_board_exchanged(wiring, n, own, line, length, other, row, packed)
                 : call == 4 ? vcube_board_round_closed(wiring, n, own, line, length)
                             : vcube_board_row(wiring, n, own, line, length, row, packed);
+        accepts(error);
         check(error != VCUBE_REFUSED_LINE_LENGTH && error != VCUBE_REFUSED_LINE_RULE, "Line kept");
-        free(row);
+        NOTE(outcome);
+        note(line, length);
+        end(row, packed);
     }
     free(line);
 }
 
-int LLVMFuzzerTestOneInput(const uint8_t *data, size_t length);
-int LLVMFuzzerTestOneInput(const uint8_t *data, size_t length)
+/* What the calls of a kind give. */
+static uint64_t give(const char *kind, const uint8_t *data, size_t length)
 {
-    static void (*const calls[])(void) = {load, convert, mend, read_input, run, board};
+    static const struct {
+        const char *name;
+        void (*make)(void);
+    } kinds[] = {{"load", load}, {"convert", convert}, {"mend", mend}, {"read_input", read_input}, {"run", run}, {"board", board}};
 
     next = data;
     left = length;
-    calls[byte() % 6]();
-    return 0;
+    given = UINT64_C(0xcbf29ce484222325);
+    for (size_t k = 0; k < sizeof kinds / sizeof kinds[0]; k++)
+        if (strcmp(kind, kinds[k].name) == 0)
+            kinds[k].make();
+    return given;
 }
 
-#ifdef ALONE
-int main(int count, char **names)
+#if defined(ALONE)
+int main(int count, char **words)
 {
     static uint8_t data[1 << 16];
 
-    for (int k = 1; k < count; k++) {
-        FILE *const file = fopen(names[k], "rb");
+    for (int k = 2; k < count; k++) {
+        FILE *const file = fopen(words[k], "rb");
 
-        check(file != NULL, names[k]);
-        LLVMFuzzerTestOneInput(data, fread(data, 1, sizeof data, file));
+        check(file != NULL, words[k]);
+        give(words[1], data, fread(data, 1, sizeof data, file));
         fclose(file);
     }
-    printf("fuzz: %d files, what is claimed of the calls is so\n", count - 1);
     return 0;
 }
+#else
+uint64_t archive_gives(const char *kind, const uint8_t *data, size_t length);
+int LLVMFuzzerTestOneInput(const uint8_t *data, size_t length);
+#if defined(BESIDE)
+uint64_t archive_gives(const char *kind, const uint8_t *data, size_t length)
+{
+    return give(kind, data, length);
+}
+#else
+int LLVMFuzzerTestOneInput(const uint8_t *data, size_t length)
+{
+    const char *const kind = getenv("TARGET");
+
+    check(give(kind, data, length) == archive_gives(kind, data, length), "the portable C and the archive give the same");
+    return 0;
+}
+#endif
 #endif
