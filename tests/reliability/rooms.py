@@ -28,7 +28,7 @@ RIGHT = {
     'ends': lambda status, out, err, files, whole: (status, err) == (0, b''),
     # What cannot even be begun is ended by a signal, and nobody is there to say so.
     'prints all': lambda status, out, err, files, whole: out == whole if status == 0 else err or status < 0,
-    'saved': lambda status, out, err, files, whole: status != 0 and NO_SYNC in err and 'master.saved' in files,
+    'saved': lambda status, out, err, files, whole: status != 0 and NO_SYNC in err and 'master.saved' in files and b' 1 entry;' in out,
     'not saved': lambda status, out, err, files, whole: status != 0 and NO_SYNC in err and 'master.saved' not in files,
 }
 PROVED = dict.fromkeys(MEMORY, 'prints all')
