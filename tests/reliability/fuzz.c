@@ -1,9 +1,9 @@
 /* Random bytes for six kinds of calls. Every buffer has memory of its own, of exactly its length, so that the sanitizer or valgrind sees what is read
  * or written beside it. What docs/RULES.md claims of the answers is checked.
  *
- * For libFuzzer, with the kind in TARGET, the calls are those of the portable C, whose ways it sees, under other names (portable_vcube_load and so
- * on); what the archive gives, from this file compiled again with -DBESIDE, has to be the same. With -DALONE it is a program that makes the calls of
- * a kind and files, by the archive alone. */
+ * For libFuzzer, with the kind in TARGET, the calls are those of the portable C, whose ways it sees, under other names (macros, vcube_load and so
+ * on); what they give has to be what this file gives when it is compiled without these, with the archive. With ALONE it is a program that makes the
+ * calls of a kind and files, by the archive. */
 #include "vcube.h"
 
 #include <stdio.h>
@@ -13,11 +13,16 @@
 #ifndef MOST
 #define MOST 64
 #endif
-#define NOTE(number) note(&(number), sizeof(number))
+#define MOST_LENT 8192
+#define NOTE(...) note((uint64_t[]){__VA_ARGS__}, sizeof((uint64_t[]){__VA_ARGS__}))
 
 static const uint8_t *next;
-static size_t left;
+static size_t left, lent_count;
 static uint64_t given; /* all that the calls give, as one number (FNV-1a) */
+static struct {
+    uint8_t *start;
+    size_t length;
+} lent[MOST_LENT];
 
 static void check(int is_so, const char *what)
 {
@@ -44,23 +49,25 @@ static uint8_t byte(void)
     return left > 0 ? (left--, *next++) : 0;
 }
 
-/* So many bytes of their own: from the input as far as it goes, then zeros. */
-static uint8_t *bytes(size_t length)
+/* A buffer, until the calls of this input are made. */
+static uint8_t *zeros(size_t length)
 {
-    uint8_t *const it = calloc(length, 1);
-    const size_t taken = length < left ? length : left;
+    uint8_t *const start = calloc(length, 1);
 
-    check(it != NULL, "there is memory");
-    memcpy(it, next, taken);
-    next += taken;
-    left -= taken;
-    return it;
+    check(start != NULL && lent_count < MOST_LENT, "there is memory");
+    lent[lent_count].start = start;
+    lent[lent_count++].length = length;
+    return start;
 }
 
-static void end(uint8_t *it, size_t length)
+/* From the input as far as it goes, then zeros. */
+static uint8_t *bytes(size_t length)
 {
-    note(it, length);
-    free(it);
+    uint8_t *const start = zeros(length);
+
+    for (size_t k = 0; k < length && left > 0; k++)
+        start[k] = byte();
+    return start;
 }
 
 /* Mostly a size. */
@@ -83,70 +90,59 @@ static int is_valid(size_t wiring, size_t n, const uint8_t *table)
     return accepts(vcube_doubt_lamp(wiring, n, table, table_length(n), &by, &of));
 }
 
-/* Loads a file, and saves it again. */
 static int is_loaded(const uint8_t *saved, size_t length)
 {
+    uint8_t *table, *const again = zeros(length);
     uint32_t rounds = 0, tests = 0;
     size_t n = 0, loaded = 0;
     int is_accepted = accepts(vcube_saved_size(saved, length, &n));
-    uint8_t *const table = bytes(table_length(n)), *const again = bytes(length);
 
+    table = zeros(table_length(n));
     is_accepted &= accepts(vcube_load(saved, length, table, table_length(n), &loaded, &rounds, &tests));
+    NOTE(n, loaded, rounds, tests);
     if (is_accepted)
         check(accepts(vcube_save(n, table, table_length(n), rounds, tests, again, length)) && loaded == n && memcmp(again, saved, length) == 0,
               "One form");
-    NOTE(n);
-    NOTE(loaded);
-    NOTE(rounds);
-    NOTE(tests);
-    end(table, table_length(n));
-    end(again, length);
     return is_accepted;
 }
 
 static void load(void)
 {
     const size_t length = left;
-    uint8_t *const saved = bytes(length);
 
-    is_loaded(saved, length);
-    end(saved, length);
+    is_loaded(bytes(length), length);
 }
 
 static void convert(void)
 {
     const size_t length = left;
-    uint8_t *const old = bytes(length), *saved;
+    const uint8_t *const old = bytes(length);
+    uint8_t *saved;
     size_t made = 0;
 
     accepts(vcube_converted_length(old, length, &made));
-    saved = bytes(made);
+    saved = zeros(made);
     if (accepts(vcube_convert(old, length, saved, made)))
         check(is_loaded(saved, made), "a converted file is loaded");
-    end(saved, made);
-    end(old, length);
 }
 
 static void mend(void)
 {
     const size_t wiring = byte() % 3, n = size(), length = table_length(n);
-    uint8_t *const table = bytes(length), *const report = bytes(4 * length);
-    size_t changes = 0;
+    uint8_t *const table = bytes(length), *const report = zeros(4 * length), *const second = zeros(4 * length);
+    size_t changes = 0, more = 0;
 
     if (accepts(vcube_mend(wiring, n, table, length, report, 4 * length, &changes))) {
-        NOTE(changes);
-        note(report, 4 * length);
         check(is_valid(wiring, n, table), "Mended passes");
-        check(accepts(vcube_mend(wiring, n, table, length, report, 4 * length, &changes)) && changes == 0, "Mended once");
+        check(accepts(vcube_mend(wiring, n, table, length, second, 4 * length, &more)) && more == 0, "Mended once");
     }
-    end(report, 4 * length);
-    end(table, length);
+    NOTE(changes);
 }
 
 static void read_input(void)
 {
     const size_t length = left;
-    uint8_t *const input = bytes(length), *const schedule = bytes(VCUBE_SCHEDULE_LENGTH), *const words = bytes(VCUBE_WORDS_LENGTH);
+    uint8_t *const input = bytes(length), *const schedule = zeros(VCUBE_SCHEDULE_LENGTH), *const words = zeros(VCUBE_WORDS_LENGTH);
     size_t n, entries, line;
 
     check(accepts(vcube_read_input(input, length, schedule, VCUBE_SCHEDULE_LENGTH, words, VCUBE_WORDS_LENGTH, &n, &entries, &line)) &&
@@ -154,11 +150,7 @@ static void read_input(void)
           "words just of a line that cannot be read");
     for (size_t k = 0; k < 2 * entries; k += 2)
         check(schedule[k] >= 1 && schedule[k] <= 3 && schedule[k + 1] <= 99, "an entry that was read");
-    NOTE(n);
-    NOTE(line);
-    end(words, VCUBE_WORDS_LENGTH);
-    end(schedule, VCUBE_SCHEDULE_LENGTH);
-    end(input, length);
+    NOTE(n, entries, line);
 }
 
 /* On a fresh table, or on any; then a drive. */
@@ -167,7 +159,7 @@ static void run(void)
     const size_t wiring = byte() % 3, n = size(), length = table_length(n);
     const int is_fresh = byte() % 4 != 0;
     uint32_t rounds = byte() % 4 ? 0 : UINT32_MAX - byte(), tests = byte() % 4 ? 0 : UINT32_MAX - byte();
-    uint8_t *const table = is_fresh ? calloc(length, 1) : bytes(length), *schedule, *sheet;
+    uint8_t *const table = is_fresh ? zeros(length) : bytes(length), *schedule;
     size_t scheduled, taken = 0, last = VCUBE_NO_STATION, grants = 0;
     int was_valid;
 
@@ -180,45 +172,34 @@ static void run(void)
         schedule[k] = schedule[k] % 16 == 0 ? schedule[k] : schedule[k] % 16 == 1 ? VCUBE_KIND_CRASH : (uint8_t)(1 + schedule[k] % 16 / 12);
         schedule[k + 1] = schedule[k + 1] == 255 ? 255 : (uint8_t)(schedule[k + 1] % n);
     }
-    sheet = bytes(2 * scheduled);
-    accepts(vcube_run(wiring, n, table, length, &rounds, &tests, schedule, scheduled, sheet, 2 * scheduled, &taken));
+    accepts(vcube_run(wiring, n, table, length, &rounds, &tests, schedule, scheduled, zeros(2 * scheduled), 2 * scheduled, &taken));
     accepts(vcube_drive(wiring, n, table, length, &rounds, &tests, &last, &grants));
     check(2 * taken <= scheduled && was_valid == is_valid(wiring, n, table), "a table stays valid");
-    NOTE(rounds);
-    NOTE(tests);
-    NOTE(taken);
-    NOTE(last);
-    NOTE(grants);
-    end(sheet, 2 * scheduled);
-    end(schedule, scheduled);
-    end(table, length);
+    NOTE(rounds, tests, taken, last, grants);
 }
 
 /* A board that hears anything. */
 static void board(void)
 {
     const size_t wiring = 1 + byte() % 2, n = 2 + byte() % 63, own = byte() % n, length = VCUBE_LINE_LENGTH(n), packed = VCUBE_PACKED_LENGTH(n);
-    uint8_t *const line = malloc(length);
+    uint8_t *const line = zeros(length);
     size_t outcome = 0;
 
     check(accepts(vcube_board_fresh(wiring, n, own, line, length)), "a fresh line");
     while (left > 0) {
         const uint8_t call = byte() % 6, other = byte();
-        uint8_t *const row = bytes(packed), error;
+        uint8_t *const row = bytes(packed), error =
+            call == 0   ? vcube_board_replied(wiring, n, own, line, length, row, packed, &outcome)
+            : call == 1 ? vcube_board_not_replied(wiring, n, own, line, length, &outcome)
+            : call == 2 ? vcube_board_told(wiring, n, own, line, length, other)
+            : call == 3 ? vcube_board_exchanged(wiring, n, own, line, length, other, row, packed)
+            : call == 4 ? vcube_board_round_closed(wiring, n, own, line, length)
+                        : vcube_board_row(wiring, n, own, line, length, row, packed);
 
-        error = call == 0   ? vcube_board_replied(wiring, n, own, line, length, row, packed, &outcome)
-                : call == 1 ? vcube_board_not_replied(wiring, n, own, line, length, &outcome)
-                : call == 2 ? vcube_board_told(wiring, n, own, line, length, other)
-                : call == 3 ? vcube_board_exchanged(wiring, n, own, line, length, other, row, packed)
-                : call == 4 ? vcube_board_round_closed(wiring, n, own, line, length)
-                            : vcube_board_row(wiring, n, own, line, length, row, packed);
-        accepts(error);
         check(error != VCUBE_REFUSED_LINE_LENGTH && error != VCUBE_REFUSED_LINE_RULE, "Line kept");
-        NOTE(outcome);
+        NOTE(error, outcome);
         note(line, length);
-        end(row, packed);
     }
-    free(line);
 }
 
 /* What the calls of a kind give. */
@@ -235,6 +216,10 @@ static uint64_t give(const char *kind, const uint8_t *data, size_t length)
     for (size_t k = 0; k < sizeof kinds / sizeof kinds[0]; k++)
         if (strcmp(kind, kinds[k].name) == 0)
             kinds[k].make();
+    for (; lent_count > 0; lent_count--) {
+        note(lent[lent_count - 1].start, lent[lent_count - 1].length);
+        free(lent[lent_count - 1].start);
+    }
     return given;
 }
 
@@ -255,18 +240,18 @@ int main(int count, char **words)
 #else
 uint64_t archive_gives(const char *kind, const uint8_t *data, size_t length);
 int LLVMFuzzerTestOneInput(const uint8_t *data, size_t length);
-#if defined(BESIDE)
-uint64_t archive_gives(const char *kind, const uint8_t *data, size_t length)
-{
-    return give(kind, data, length);
-}
-#else
+#if defined(vcube_load)
 int LLVMFuzzerTestOneInput(const uint8_t *data, size_t length)
 {
     const char *const kind = getenv("TARGET");
 
     check(give(kind, data, length) == archive_gives(kind, data, length), "the portable C and the archive give the same");
     return 0;
+}
+#else
+uint64_t archive_gives(const char *kind, const uint8_t *data, size_t length)
+{
+    return give(kind, data, length);
 }
 #endif
 #endif
