@@ -1,9 +1,6 @@
-/* Random bytes for six kinds of calls. Every buffer has memory of its own, of exactly its length, so that the sanitizer or valgrind sees what is read
- * or written beside it. What docs/RULES.md claims of the answers is checked.
- *
- * For libFuzzer, with the kind in TARGET, the calls are those of the portable C, whose ways it sees, under other names (macros, vcube_load and so
- * on); what they give has to be what this file gives when it is compiled without these, with the archive. With ALONE it is a program that makes the
- * calls of a kind and files, by the archive. */
+/* Random bytes for a kind of calls, which KIND of the environment says; for libFuzzer. Every buffer has memory of its own, of exactly its length, so
+ * that the sanitizer or valgrind sees what is read or written beside it. What docs/RULES.md claims of the answers is checked. And what the calls give
+ * has to be what this file gives compiled with BESIDE: the calls of the portable C, under other names, are held against those of the archive. */
 #include "vcube.h"
 
 #include <stdio.h>
@@ -223,35 +220,20 @@ static uint64_t give(const char *kind, const uint8_t *data, size_t length)
     return given;
 }
 
-#if defined(ALONE)
-int main(int count, char **words)
-{
-    static uint8_t data[1 << 16];
-
-    for (int k = 2; k < count; k++) {
-        FILE *const file = fopen(words[k], "rb");
-
-        check(file != NULL, words[k]);
-        give(words[1], data, fread(data, 1, sizeof data, file));
-        fclose(file);
-    }
-    return 0;
-}
-#else
 uint64_t archive_gives(const char *kind, const uint8_t *data, size_t length);
 int LLVMFuzzerTestOneInput(const uint8_t *data, size_t length);
-#if defined(vcube_load)
-int LLVMFuzzerTestOneInput(const uint8_t *data, size_t length)
-{
-    const char *const kind = getenv("TARGET");
 
-    check(give(kind, data, length) == archive_gives(kind, data, length), "the portable C and the archive give the same");
-    return 0;
-}
-#else
+#ifdef BESIDE
 uint64_t archive_gives(const char *kind, const uint8_t *data, size_t length)
 {
     return give(kind, data, length);
 }
-#endif
+#else
+int LLVMFuzzerTestOneInput(const uint8_t *data, size_t length)
+{
+    const char *const kind = getenv("KIND");
+
+    check(give(kind, data, length) == archive_gives(kind, data, length), "the portable C and the archive give the same");
+    return 0;
+}
 #endif

@@ -1,14 +1,12 @@
 /* A disk of which the sync that FAILS counts fails. */
 #include <errno.h>
 #include <stdlib.h>
-
-int fsync(int file);
+#include <unistd.h>
 
 int fsync(int file)
 {
     static int count;
 
-    (void)file;
     errno = EIO;
-    return ++count == atoi(getenv("FAILS")) ? -1 : 0;
+    return file < 0 || ++count == atoi(getenv("FAILS")) ? -1 : 0;
 }
