@@ -926,45 +926,22 @@ static void choose_fault(uint64_t seed)
 
 static void begin_run(void)
 {
-    static const struct vcube_times usual = VCUBE_TIMES_USUAL;
-    const size_t length = VCUBE_TABLE_LENGTH(scene.n);
-
-    event_count = 0;
-    clock_now = 0;
-    cable_free = 0;
-    held_count = 0;
-    waiting_count = 0;
-    made = 0;
-    has_saved = false;
-    is_save_lost = false;
+    event_count = held_count = waiting_count = made = 0;
+    clock_now = cable_free = 0;
     waited_rounds = 0;
+    has_saved = is_save_lost = has_wrong = has_fault = has_lied = has_replied_dead = false;
     memset(ends_said, 0, sizeof ends_said);
-    has_wrong = false;
-    has_fault = false;
-    has_lied = false;
-    has_replied_dead = false;
     memset(must_know, 0, sizeof must_know);
     memset(parts, 0, sizeof parts);
-    if (vcube_fresh_table(scene.wiring, scene.n, TABLE_OF(0), length))
+    if (vcube_fresh_table(scene.wiring, scene.n, TABLE_OF(0), VCUBE_TABLE_LENGTH(scene.n)))
         fail("no fresh table");
-    memset(&master_settings, 0, sizeof master_settings);
-    master_settings.wiring = scene.wiring;
-    master_settings.n = scene.n;
-    master_settings.times = usual;
-    master_settings.stops_at_fault = scene.stops_at_fault;
-    master_settings.entered = master_entered;
-    master_settings.fault = master_fault;
-    master_settings.save = master_save;
-    master_settings.silence = master_silence;
+    master_settings = (struct vcube_master_settings){
+        .wiring = scene.wiring, .n = scene.n, .times = VCUBE_TIMES_USUAL, .stops_at_fault = scene.stops_at_fault,
+        .entered = master_entered, .fault = master_fault, .save = master_save, .silence = master_silence};
     for (size_t k = 0; k < scene.n; k++) {
-        memset(&node_settings[k], 0, sizeof node_settings[k]);
-        node_settings[k].wiring = scene.wiring;
-        node_settings[k].n = scene.n;
-        node_settings[k].own = k;
-        node_settings[k].times = usual;
-        node_settings[k].quiet = QUIET;
-        node_settings[k].in_force = node_in_force;
-        node_settings[k].context = &parts[k];
+        node_settings[k] = (struct vcube_node_settings){
+            .wiring = scene.wiring, .n = scene.n, .own = k, .times = VCUBE_TIMES_USUAL, .quiet = QUIET,
+            .in_force = node_in_force, .context = &parts[k]};
         start_part(&parts[k]);
     }
     start_part(&parts[scene.n]);
@@ -1326,16 +1303,10 @@ static bool is_on(void)
 
 static void start_board(void)
 {
-    static const struct vcube_times usual = VCUBE_TIMES_USUAL;
-    struct vcube_node_settings settings;
+    const struct vcube_node_settings settings = {
+        .wiring = VCUBE_WIRING_CUBE, .n = CASE_BOARDS, .own = 1, .times = VCUBE_TIMES_USUAL, .quiet = QUIET};
 
     memset(&bench, 0, sizeof bench);
-    memset(&settings, 0, sizeof settings);
-    settings.wiring = VCUBE_WIRING_CUBE;
-    settings.n = CASE_BOARDS;
-    settings.own = 1;
-    settings.times = usual;
-    settings.quiet = QUIET;
     need(vcube_node_start(&nodes[1], &settings) == VCUBE_ACCEPTED, "the board starts");
 }
 
@@ -1351,16 +1322,9 @@ static void start_in_step(uint32_t number)
 
 static void start_master(void)
 {
-    static const struct vcube_times usual = VCUBE_TIMES_USUAL;
-
     memset(&bench, 0, sizeof bench);
-    memset(&master_settings, 0, sizeof master_settings);
-    master_settings.wiring = VCUBE_WIRING_CUBE;
-    master_settings.n = CASE_BOARDS;
-    master_settings.times = usual;
-    master_settings.silence = bench_silence;
-    master_settings.entered = bench_entered;
-    master_settings.fault = bench_fault;
+    master_settings = (struct vcube_master_settings){.wiring = VCUBE_WIRING_CUBE, .n = CASE_BOARDS, .times = VCUBE_TIMES_USUAL,
+                                                     .silence = bench_silence, .entered = bench_entered, .fault = bench_fault};
     need(vcube_master_start(&master, &master_settings) == VCUBE_ACCEPTED, "the master starts");
 }
 
