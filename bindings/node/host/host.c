@@ -40,12 +40,9 @@ void host_forget_signal(void)
 
 void host_signals(void)
 {
-    struct sigaction action;
-
-    memset(&action, 0, sizeof action);
-    action.sa_handler = on_signal;
     /* A line that is being printed is printed whole; ppoll is interrupted all the same. */
-    action.sa_flags = SA_RESTART;
+    const struct sigaction action = {.sa_handler = on_signal, .sa_flags = SA_RESTART};
+
     sigaction(SIGTERM, &action, NULL);
     signal(SIGINT, SIG_IGN);
     signal(SIGHUP, SIG_IGN);
@@ -94,13 +91,7 @@ uint32_t host_number(const char *text, uint32_t most)
 
 struct vcube_times host_times(uint32_t reply)
 {
-    struct vcube_times times;
-
-    times.reply = reply;
-    times.repeat = reply / 4 > 0 ? reply / 4 : 1;
-    times.grant = 2 * reply + 10;
-    times.probe = reply;
-    return times;
+    return (struct vcube_times){.reply = reply, .repeat = reply / 4 > 0 ? reply / 4 : 1, .grant = 2 * reply + 10, .probe = reply};
 }
 
 size_t host_wiring(const char *name)
@@ -128,10 +119,8 @@ static uint64_t slept;
 
 void host_pause(uint32_t milliseconds)
 {
-    struct timespec time;
+    const struct timespec time = {(time_t)(milliseconds / 1000), (long)(milliseconds % 1000) * 1000000};
 
-    time.tv_sec = (time_t)(milliseconds / 1000);
-    time.tv_nsec = (long)(milliseconds % 1000) * 1000000;
     nanosleep(&time, NULL);
     slept += 1000 * (uint64_t)milliseconds;
 }
@@ -189,22 +178,17 @@ static uint64_t next_arrival(int socket)
         struct cmsghdr head;
         uint8_t bytes[256];
     } control;
-    struct msghdr message;
+    struct msghdr message = {.msg_control = control.bytes, .msg_controllen = sizeof control.bytes};
 
-    memset(&message, 0, sizeof message);
-    message.msg_control = control.bytes;
-    message.msg_controllen = sizeof control.bytes;
     return recvmsg(socket, &message, MSG_DONTWAIT | MSG_PEEK) >= 0 ? host_arrival(&message) : host_clock();
 }
 
 void host_wait(struct host_pauses *pauses, int socket, uint64_t microseconds)
 {
     struct pollfd it = {socket, POLLIN, 0};
-    struct timespec limit;
+    const struct timespec limit = {(time_t)(microseconds / 1000000), (long)(microseconds % 1000000 * 1000)};
     uint64_t begin, ready_at;
 
-    limit.tv_sec = (time_t)(microseconds / 1000000);
-    limit.tv_nsec = (long)(microseconds % 1000000 * 1000);
     host_tell_pause(pauses);
     begin = host_clock();
     ready_at = ppoll(&it, 1, &limit, NULL) == 0 ? begin + microseconds : next_arrival(socket);
@@ -223,26 +207,20 @@ static void wait_until(struct host *host, uint32_t until)
 /* Joins the hub's cable: an empty datagram, until it is answered by one. */
 static void open_udp(struct host *host, const char *port)
 {
-    struct sockaddr_in hub;
+    const struct sockaddr_in hub = {
+        .sin_family = AF_INET, .sin_addr.s_addr = htonl(INADDR_LOOPBACK), .sin_port = htons((uint16_t)host_number(port, 65535))};
     const int room = 1 << 20, yes = 1;
     int tries;
     char byte;
 
-    memset(&hub, 0, sizeof hub);
-    hub.sin_family = AF_INET;
-    hub.sin_addr.s_addr = htonl(INADDR_LOOPBACK);
-    hub.sin_port = htons((uint16_t)host_number(port, 65535));
     host->socket = socket(AF_INET, SOCK_DGRAM, 0);
     if (host->socket < 0 || connect(host->socket, (const struct sockaddr *)&hub, sizeof hub) != 0)
         host_fail("no cable udp", port);
     setsockopt(host->socket, SOL_SOCKET, SO_RCVBUF, &room, sizeof room);
     setsockopt(host->socket, SOL_SOCKET, SO_TIMESTAMPNS, &yes, sizeof yes);
     for (tries = 0; tries < 100 && !is_over; tries++) {
-        struct pollfd it;
+        struct pollfd it = {host->socket, POLLIN, 0};
 
-        it.fd = host->socket;
-        it.events = POLLIN;
-        it.revents = 0;
         send(host->socket, NULL, 0, 0);
         if (poll(&it, 1, 100) > 0 && recv(host->socket, &byte, 1, MSG_DONTWAIT) >= 0)
             return;
@@ -253,14 +231,11 @@ static void open_udp(struct host *host, const char *port)
 
 static void open_can(struct host *host, const char *interface)
 {
-    struct sockaddr_can place;
+    const struct sockaddr_can place = {.can_family = AF_CAN, .can_ifindex = (int)if_nametoindex(interface)};
 
-    memset(&place, 0, sizeof place);
-    place.can_family = AF_CAN;
     host->socket = socket(PF_CAN, SOCK_RAW, CAN_RAW);
     if (host->socket < 0)
         host_fail("no SocketCAN", interface);
-    place.can_ifindex = (int)if_nametoindex(interface);
     if (place.can_ifindex == 0 || bind(host->socket, (const struct sockaddr *)&place, sizeof place) != 0)
         host_fail("no cable can", interface);
 }
@@ -286,11 +261,8 @@ static void send_frame(void *context, const struct vcube_frame *frame)
     if (host->before_send != NULL)
         host->before_send(frame);
     if (host->is_can) {
-        struct can_frame it;
+        struct can_frame it = {.can_id = frame->identifier | CAN_EFF_FLAG, .can_dlc = frame->length};
 
-        memset(&it, 0, sizeof it);
-        it.can_id = frame->identifier | CAN_EFF_FLAG;
-        it.can_dlc = frame->length;
         memcpy(it.data, frame->data, frame->length);
         send(host->socket, &it, sizeof it, 0);
     } else {
@@ -360,12 +332,5 @@ static uint32_t now(void *context)
 
 struct vcube_cable host_cable(struct host *host)
 {
-    struct vcube_cable cable;
-
-    cable.context = host;
-    cable.send = send_frame;
-    cable.receive = receive_frame;
-    cable.now = now;
-    cable.sent = NULL;
-    return cable;
+    return (struct vcube_cable){.context = host, .send = send_frame, .receive = receive_frame, .now = now};
 }

@@ -252,18 +252,14 @@ int main(int count, char **words)
 {
     const struct settings settings = read_arguments(count, words);
     const int socket_ = socket(AF_INET, SOCK_DGRAM | SOCK_CLOEXEC, 0), room = 4 << 20, yes = 1;
-    struct sockaddr_in place = {0};
+    struct sockaddr_in place = {.sin_family = AF_INET, .sin_addr.s_addr = htonl(INADDR_LOOPBACK)};
     socklen_t place_length = sizeof place;
-    struct sigaction action = {0};
+    const struct sigaction action = {.sa_handler = on_signal, .sa_flags = SA_RESTART};
     struct host_pauses pauses = {settings.longest_wait, 0, 0};
 
     host_signals();
-    action.sa_handler = on_signal;
-    action.sa_flags = SA_RESTART;
     sigaction(SIGUSR1, &action, NULL);
     sigaction(SIGUSR2, &action, NULL);
-    place.sin_family = AF_INET;
-    place.sin_addr.s_addr = htonl(INADDR_LOOPBACK);
     if (socket_ < 0 || bind(socket_, (const struct sockaddr *)&place, sizeof place) != 0 ||
         getsockname(socket_, (struct sockaddr *)&place, &place_length) != 0)
         host_fail("hub", "no socket");
