@@ -1265,6 +1265,13 @@ static void step_master(uint32_t milliseconds)
     }
 }
 
+/* The board hears a frame, with a row of zeros or without data. */
+static void hear(size_t sender, uint32_t kind, uint32_t number, size_t length)
+{
+    come_alone(sender, 1, kind, number, length, (const uint8_t[]){0});
+    step_board();
+}
+
 /* A note of entry `number`, with a grant to `granted`. */
 static void hear_note_of(size_t sender, uint32_t number, size_t granted, unsigned kind_and_outcome, unsigned station, unsigned tested)
 {
@@ -1296,6 +1303,12 @@ static void hear_row_of(uint32_t number)
     step_board();
 }
 
+static void hear_line_of(uint32_t number)
+{
+    hear_head_of(number);
+    hear_row_of(number);
+}
+
 static bool is_on(void)
 {
     return vcube_node_outputs_on(&nodes[1], bench.now);
@@ -1315,8 +1328,7 @@ static void start_in_step(uint32_t number)
 {
     start_board();
     hear_note_of(0, number, 0, NOTE_FINISHED, 0, VCUBE_NO_STATION);
-    hear_head_of(number);
-    hear_row_of(number);
+    hear_line_of(number);
     need(nodes[1].has_line && nodes[1].entries == number && is_on(), "a board that starts takes its line, and its outputs go on");
 }
 
@@ -1488,24 +1500,19 @@ static void try_halves(void)
 /* A turn is made once, by a reply of this turn and of the board tested. Of exchanges that of the turn that is entered is joined. */
 static void try_turn(void)
 {
-    const uint8_t row[1] = {0};
-
     start_in_step(5);
     hear_note_of(0, 5, 1, NOTE_FINISHED, 0, VCUBE_NO_STATION);
     need(count_out(VCUBE_FRAME_TEST) == 1 && nodes[1].tested == 0, "a board that is granted tests");
-    come_alone(2, 1, VCUBE_FRAME_REPLY, 6, sizeof row, row);
-    come_alone(0, 1, VCUBE_FRAME_REPLY, 5, sizeof row, row);
-    step_board();
+    come_alone(2, 1, VCUBE_FRAME_REPLY, 6, 1, (const uint8_t[]){0});
+    hear(0, VCUBE_FRAME_REPLY, 5, 1);
     need(nodes[1].turn == VCUBE_NODE_TESTING, "a reply of another board, or of another turn, is thrown away");
-    come_alone(0, 1, VCUBE_FRAME_REPLY, 6, sizeof row, row);
-    step_board();
+    hear(0, VCUBE_FRAME_REPLY, 6, 1);
     need(count_out(VCUBE_FRAME_EXCHANGE) == 1, "the reply ends the turn");
     hear_note_of(0, 5, 1, NOTE_FINISHED, 0, VCUBE_NO_STATION);
     need(count_out(VCUBE_FRAME_EXCHANGE) == 1 && count_out(VCUBE_FRAME_TEST) == 0, "an ended turn is not made again, and its end is sent again");
     for (uint8_t tester = 0; tester <= 2; tester += 2) {
         start_in_step(5);
-        come_alone(tester, 1, VCUBE_FRAME_EXCHANGE, 6, sizeof row, row);
-        step_board();
+        hear(tester, VCUBE_FRAME_EXCHANGE, 6, 1);
         hear_note_of(0, 6, 0, NOTE_OF(VCUBE_KIND_TURN, VCUBE_OUTCOME_EXCHANGED), 0, 1);
         need(nodes[1].entries == (tester == 0 ? 6u : 5u), "the exchange of the board whose turn is entered is joined, and no other");
     }
@@ -1515,18 +1522,14 @@ static void try_turn(void)
 static void try_behind(void)
 {
     start_in_step(5);
-    come_alone(0, 1, VCUBE_FRAME_TEST, 6, 0, NULL);
-    step_board();
+    hear(0, VCUBE_FRAME_TEST, 6, 0);
     need(count_out(VCUBE_FRAME_REPLY) == 1, "a board in step answers");
     hear_note_of(0, 7, 0, NOTE_FINISHED, 0, VCUBE_NO_STATION);
-    come_alone(0, 1, VCUBE_FRAME_TEST, 6, 0, NULL);
-    step_board();
+    hear(0, VCUBE_FRAME_TEST, 6, 0);
     need(count_out(VCUBE_FRAME_REPLY) == 0, "a board that is behind answers no test");
-    come_alone(0, 1, VCUBE_FRAME_TEST, 8, 0, NULL);
-    step_board();
+    hear(0, VCUBE_FRAME_TEST, 8, 0);
     need(count_out(VCUBE_FRAME_REPLY) == 0, "nor one of a later turn");
-    hear_head_of(7);
-    hear_row_of(7);
+    hear_line_of(7);
     need(count_out(VCUBE_FRAME_REPLY) == 1, "it answers the test that it kept, once in step");
 }
 
@@ -1570,25 +1573,21 @@ static void try_notes(void)
 static void try_old_line(void)
 {
     start_board();
-    hear_head_of(5);
-    hear_row_of(5);
+    hear_line_of(5);
     need(!nodes[1].has_line, "a line that was not asked for is not taken");
     hear_note_of(0, 9, 0, NOTE_FINISHED, 0, VCUBE_NO_STATION);
-    hear_head_of(5);
-    hear_row_of(5);
+    hear_line_of(5);
     need(nodes[1].has_line && nodes[1].entries == 5 && !is_on(), "an old line does not put the outputs on");
     bench.now += 10;
     step_board();
     need(count_out(VCUBE_FRAME_ASK) == 1, "after an old line the board asks again");
-    hear_head_of(9);
-    hear_row_of(9);
+    hear_line_of(9);
     need(nodes[1].entries == 9 && is_on(), "the line of the newest entry puts them on");
 
     start_in_step(5);
     hear_note_of(0, 900, 0, NOTE_FINISHED, 0, VCUBE_NO_STATION);
     bench.now += 60;
-    hear_head_of(7);
-    hear_row_of(7);
+    hear_line_of(7);
     need(nodes[1].entries == 7 && !nodes[1].is_behind, "a number that no master tells again does not keep a board behind");
 }
 
@@ -1618,8 +1617,7 @@ static void try_damage(void)
         bench.now += 10;
         step_board();
         need(count_out(VCUBE_FRAME_ASK) == 1 && count_out(VCUBE_FRAME_REPLY) == 0, "a board with a damaged line asks for its line");
-        hear_head_of(6);
-        hear_row_of(6);
+        hear_line_of(6);
         need(nodes[1].entries == 6 && is_on(), "the master's line is taken in its place");
     }
 }
@@ -1627,8 +1625,6 @@ static void try_damage(void)
 /* A board that is reset in its turn makes it again. If the end of the first time was entered, with another outcome, it asks for its line. */
 static void try_reset(void)
 {
-    const uint8_t row[1] = {0};
-
     for (unsigned is_same = 0; is_same < 2; is_same++) {
         start_in_step(5);
         hear_note_of(0, 5, 1, NOTE_FINISHED, 0, VCUBE_NO_STATION);
@@ -1637,8 +1633,7 @@ static void try_reset(void)
         need(count_out(VCUBE_FRAME_NO_REPLY) == 1, "a test that is not replied to ends the turn");
         start_in_step(5);
         hear_note_of(0, 5, 1, NOTE_FINISHED, 0, VCUBE_NO_STATION);
-        come_alone(0, 1, VCUBE_FRAME_REPLY, 6, sizeof row, row);
-        step_board();
+        hear(0, VCUBE_FRAME_REPLY, 6, 1);
         need(count_out(VCUBE_FRAME_EXCHANGE) == 1, "after a reset the turn is made again");
         hear_note_of(0, 6, 0, is_same ? NOTE_OF(VCUBE_KIND_TURN, VCUBE_OUTCOME_EXCHANGED) : NOTE_OF(VCUBE_KIND_LATE_TURN, VCUBE_OUTCOME_NO_REPLY), 1,
                      0);
