@@ -792,15 +792,8 @@ static void plan(enum action action, size_t part, uint32_t kind, unsigned count,
 /* A kill or a stop, at a frame that ends a turn, at a test or a reply, as it asks for a frame, or at any moment. The master may be stopped too. */
 static void plan_at_random(enum action action)
 {
-    static const uint32_t kinds[] = {0,
-                                     0,
-                                     VCUBE_FRAME_TEST,
-                                     VCUBE_FRAME_REPLY,
-                                     VCUBE_FRAME_EXCHANGE,
-                                     VCUBE_FRAME_FINISHED,
-                                     VCUBE_FRAME_NO_REPLY,
-                                     ASKS_FOR_FRAME,
-                                     ASKS_FOR_FRAME};
+    static const uint32_t kinds[] = {0, 0, VCUBE_FRAME_TEST, VCUBE_FRAME_REPLY, VCUBE_FRAME_EXCHANGE, VCUBE_FRAME_FINISHED, VCUBE_FRAME_NO_REPLY,
+                                     ASKS_FOR_FRAME, ASKS_FOR_FRAME};
     struct plan new_plan;
 
     new_plan.action = action;
@@ -818,10 +811,7 @@ static void plan_at_random(enum action action)
 /* A scene of n boards that all keep the rules. */
 static void set_size(size_t n)
 {
-    scene.n = n;
-    scene.early = n;
-    scene.liar = n;
-    scene.undead = n;
+    scene.n = scene.early = scene.liar = scene.undead = n;
 }
 
 static void choose(uint64_t seed)
@@ -1751,21 +1741,11 @@ static void compare_counts(void)
         const char *what;
         unsigned long count;
         unsigned long least;
-    } all[] = {{"entries", counts.entries, 20000},
-               {"lines of boards", counts.records, 200000},
-               {"lines that know who is dead", counts.known, 20000},
-               {"boards killed", counts.killed, 50},
-               {"stops", counts.stopped, 60},
-               {"boards started again", counts.again, 20},
-               {"masters started again", counts.masters, 5},
-               {"outages", counts.outages, 10},
-               {"faults named", counts.named, 10},
-               {"stops at a fault", counts.stopped_at_fault, 5},
-               {"late replies", counts.lates, 60},
-               {"crashes", counts.crashes, 50},
-               {"boards left", counts.lefts, 40},
-               {"asks", counts.asks, 9000},
-               {"silences", counts.silences, 10},
+    } all[] = {{"entries", counts.entries, 20000}, {"lines of boards", counts.records, 200000}, {"lines that know who is dead", counts.known, 20000},
+               {"boards killed", counts.killed, 50}, {"stops", counts.stopped, 60}, {"boards started again", counts.again, 20},
+               {"masters started again", counts.masters, 5}, {"outages", counts.outages, 10}, {"faults named", counts.named, 10},
+               {"stops at a fault", counts.stopped_at_fault, 5}, {"late replies", counts.lates, 60}, {"crashes", counts.crashes, 50},
+               {"boards left", counts.lefts, 40}, {"asks", counts.asks, 9000}, {"silences", counts.silences, 10},
                {"outputs that go off", counts.off, 500}};
 
     for (size_t k = 0; counts.runs >= 100 && k < sizeof all / sizeof all[0]; k++)
@@ -1794,12 +1774,10 @@ int main(int count, char **words)
     }
     printf("%lu runs, %lu entries, %lu frames: %lu lines of boards are the table's, %lu of them know who is dead; %lu boards killed, %lu stops, "
            "%lu boards and %lu masters started again, %lu outages, %lu named (%lu stopped there); %lu late, %lu crashes, %lu left, %lu asks, "
-           "%lu behind at the end; "
-           "without cause %lu late, %lu crashes\n",
+           "%lu behind at the end; without cause %lu late, %lu crashes\n",
            counts.runs, counts.entries, counts.frames, counts.records, counts.known, counts.killed, counts.stopped, counts.again, counts.masters,
            counts.outages, counts.named, counts.stopped_at_fault, counts.lates, counts.crashes, counts.lefts, counts.asks, counts.behind,
-           counts.lates_without_cause,
-           counts.crashes_without_cause);
+           counts.lates_without_cause, counts.crashes_without_cause);
     compare_counts();
     return 0;
 }

@@ -23,7 +23,7 @@
 
 static long left = LONG_MAX; /* steps until power is lost */
 
-/* What is there after the process. Of the file written beside: how many bytes, and how many for certain; whether the new name may be there, and is. */
+/* What is there after the process. Of the file beside: how many bytes, and how many for certain; whether the new name may be there, and is. */
 static struct {
     uint8_t flash[2][VCUBE_SAVED_LENGTH(8) + 1];
     size_t written, synced;

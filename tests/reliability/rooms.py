@@ -1,6 +1,6 @@
 #!/usr/bin/env python3
-"""Programs that people run, on a full disk, on one that does not sync, with a reader that is gone, and with little memory: they end with a status that
-is not 0, or with the whole of what they print. Of watch, sheet and convert tests/programs has disk and reader.
+"""Programs that people run, on a full disk, on one that does not sync, with a reader that is gone, and with little memory: they end with a status
+that is not 0, or with the whole of what they print. Of watch, sheet and convert tests/programs has disk and reader.
 
 Usage: tests/reliability/rooms.py SIMULATOR MADE    where the simulator's programs are; where tests/reliability/run makes the others
 """
@@ -40,21 +40,13 @@ RUN, OLD = sample('late-press.txt'), sample('eight-boards-4-out-edition-1.saved'
 PLANT = f'{ROOT}/plant 2 --rounds 1 --brief'
 SYNCING = f'env VCUBE_PLANT={MADE}/syncing FAILS=%d {PLANT} --keep . --record run'
 COMMANDS = [  # its input, its files that have no room, and what each way of calling it must come to
-    (f'{SIMULATOR}/simulate', RUN, [], SIMULATED),
-    (f'{SIMULATOR}/simulate --ring', RUN, [], SIMULATED),
-    (f'{SIMULATOR}/simulate_sheet 8 4', b'', [], SIMULATED),
+    *[(f'{SIMULATOR}/{words}', RUN, [], SIMULATED) for words in ('simulate', 'simulate --ring', 'simulate_sheet 8 4', 'simulate_saved')],
     (f'{SIMULATOR}/simulate_convert', OLD, [], SIMULATED),
-    (f'{SIMULATOR}/simulate_saved', RUN, [], SIMULATED),
     (f'{ROOT}/samples/slowest 8', b'', [], SIMULATED),
     *[(f'{MADE}/{name}', b'', [], IN_C) for name in ('plant', 'granter', 'panel', 'season', 'boards')],
-    (program('watch'), RUN, [], PROVED),
-    (f'{program("watch")} --ring', RUN, [], PROVED),
-    (f'{program("sheet")} 64', b'', [], PROVED),
+    *[(words, RUN, [], PROVED) for words in (program('watch'), program('watch') + ' --ring', program('sheet') + ' 64')],
     (program('convert'), OLD, [], PROVED),
-    (f'{ROOT}/plant --help', b'', [], OF_PLANT),
-    (PLANT, b'', [], OF_PLANT),
-    (f'{MADE}/node/hub', b'', [], OF_PLANT),
-    (f'{MADE}/node/master udp:1 cube 4', b'', [], OF_PLANT),
+    *[(words, b'', [], OF_PLANT) for words in (f'{ROOT}/plant --help', PLANT, f'{MADE}/node/hub', f'{MADE}/node/master udp:1 cube 4')],
     *[(f'{PLANT} --keep . --record run --port port', b'', [full], {'': 'says'})
       for full in ('frames.log', 'board-1.log', 'master.log', 'master.saved.new', 'run', 'port')],
     # At the start; of the record, of the new file, and of the folder once it has the new name.
@@ -74,8 +66,7 @@ def main():
         for how, right in ways.items():
             answer = call([command], dataclasses.replace(case, how=how))
             count += 1
-            if not RIGHT[right](*answer, whole):
-                wrong.append(f'{words}, {how or full}: {answer[:3]}')
+            wrong += [] if RIGHT[right](*answer, whole) else [f'{words}, {how or full}: {answer[:3]}']
     print(*wrong, f'rooms: {count} calls without room or with little memory, {len(wrong)} of them wrong', sep='\n')
     return 1 if wrong else 0
 

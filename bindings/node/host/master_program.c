@@ -52,11 +52,6 @@ struct program {
 
 static struct program program;
 
-static void fail(const char *name)
-{
-    host_fail("master", name);
-}
-
 static void write_entry(const struct vcube_entry *entry)
 {
     const size_t n = program.settings.n, wiring = program.settings.wiring;
@@ -117,12 +112,12 @@ static void save(void *context, const uint8_t *saved, size_t length)
     if (program.save == NULL)
         return;
     if (program.record != NULL && sync_file(fileno(program.record)) != 0)
-        fail(program.record_name);
+        host_fail("master", program.record_name);
     snprintf(aside, sizeof aside, "%s.new", program.save);
     file = fopen(aside, "wb");
     if (file == NULL || fwrite(saved, 1, length, file) != length || fflush(file) != 0 || sync_file(fileno(file)) != 0 || fclose(file) != 0 ||
         rename(aside, program.save) != 0 || sync_file(program.save_folder) != 0)
-        fail(program.save);
+        host_fail("master", program.save);
 }
 
 /* What was saved is in this folder. Without --again it is removed: it is of another run. */
@@ -132,7 +127,7 @@ static void open_save(const char *name)
 
     program.save_folder = open(dirname(strcpy(folder, name)), O_RDONLY | O_DIRECTORY);
     if (program.save_folder < 0 || (!program.again && ((remove(name) != 0 && errno != ENOENT) || sync_file(program.save_folder) != 0)))
-        fail(name);
+        host_fail("master", name);
 }
 
 /* The record, with just the lines of the entries that there are. One line more may stand there, of an entry that was not saved. */
@@ -143,7 +138,7 @@ static void open_record(uint32_t entries)
 
     program.record = fopen(program.record_name, entries > 0 ? "r+" : "w");
     if (program.record == NULL)
-        fail(program.record_name);
+        host_fail("master", program.record_name);
     if (entries == 0) {
         fprintf(program.record, "%zu\n", program.settings.n);
         host_write_out(program.record, program.record_name);
@@ -155,7 +150,7 @@ static void open_record(uint32_t entries)
         while (byte != '\n' && byte != EOF);
     errno = ENODATA;
     if (byte == EOF || fseek(program.record, 0, SEEK_CUR) != 0 || ftruncate(fileno(program.record), ftell(program.record)) != 0)
-        fail(program.record_name);
+        host_fail("master", program.record_name);
 }
 
 /* Goes on from what was saved. Gives whether there is anything: what is not saved was told to nobody. */
@@ -169,7 +164,7 @@ static bool resume(void)
     if (file == NULL && errno == ENOENT)
         return false;
     if (file == NULL)
-        fail(program.save);
+        host_fail("master", program.save);
     length = fread(saved, 1, sizeof saved, file);
     fclose(file);
     error = vcube_master_resume(&program.master, &program.settings, saved, length);
@@ -285,6 +280,6 @@ int main(int count, char **words)
     host_forget_signal();
     rest(&cable);
     if (program.record != NULL && fclose(program.record) != 0)
-        fail(program.record_name);
+        host_fail("master", program.record_name);
     return 0;
 }
