@@ -255,14 +255,12 @@ static void note_answer(const struct vcube_frame *frame)
 static void use_cable(void)
 {
     size_t first = 0;
-    struct vcube_frame frame;
-    size_t from;
 
     for (size_t k = 1; scene.is_by_kind && k < waiting_count; k++)
         if (waiting[k].identifier < waiting[first].identifier)
             first = k;
-    frame = waiting[first];
-    from = waiting_from[first];
+    const struct vcube_frame frame = waiting[first];
+    const size_t from = waiting_from[first];
     waiting_count--;
     memmove(&waiting[first], &waiting[first + 1], (waiting_count - first) * sizeof waiting[0]);
     memmove(&waiting_from[first], &waiting_from[first + 1], (waiting_count - first) * sizeof waiting_from[0]);
@@ -374,8 +372,7 @@ static void part_send(void *context, const struct vcube_frame *frame)
     do_plans(part, kind, false);
     if (part->is_killed)
         return;
-    if (kind == VCUBE_FRAME_ASK)
-        counts.asks++;
+    counts.asks += kind == VCUBE_FRAME_ASK;
     if (number_of(part) < scene.n && nodes[number_of(part)].has_line && nodes[number_of(part)].line[0] != VCUBE_STATUS_LIVE)
         fail("board %zu is not live, and sends a frame of kind %u", number_of(part), (unsigned)kind);
     if (number_of(part) == scene.liar && kind == scene.lie) {
@@ -434,9 +431,7 @@ static bool part_sent(void *context)
 
 static struct vcube_cable cable_of(struct part *part)
 {
-    const struct vcube_cable cable = {part, part_send, part_receive, part_now, scene.tells_sent ? part_sent : NULL};
-
-    return cable;
+    return (struct vcube_cable){part, part_send, part_receive, part_now, scene.tells_sent ? part_sent : NULL};
 }
 
 /* ---- What is compared ---- */
@@ -496,15 +491,13 @@ static void count_wait(const struct vcube_entry *entry)
 /* What is entered is what the granted board sent as the end of its turn; it is late just if the board tested is live in the table before. */
 static void compare_entry(const struct vcube_entry *entry, const uint8_t *before)
 {
-    bool is_tested_live;
-
     if (entry->kind == VCUBE_KIND_CRASH)
         return;
     if (scene.undead == scene.n && !(ends_said[entry->station] >> entry->outcome & 1))
         fail("entry of board %d with outcome %d, which it did not send", entry->station, entry->outcome);
     if (entry->tested == VCUBE_NO_STATION)
         return;
-    is_tested_live = before[entry->tested * VCUBE_LINE_LENGTH(scene.n)] == VCUBE_STATUS_LIVE;
+    const bool is_tested_live = before[entry->tested * VCUBE_LINE_LENGTH(scene.n)] == VCUBE_STATUS_LIVE;
     if ((entry->kind == VCUBE_KIND_LATE_TURN) != (entry->outcome == VCUBE_OUTCOME_NO_REPLY && is_tested_live))
         fail("entry of kind %d of board %d with outcome %d, which tested %d", entry->kind, entry->station, entry->outcome, entry->tested);
 }
@@ -572,10 +565,8 @@ static void master_entered(void *context, const struct vcube_entry *entry)
         if (!was_away(entry->station) && !has_fault)
             without_cause(&counts.crashes_without_cause, entry);
     }
-    if (entry->outcome == VCUBE_OUTCOME_TOLD || entry->outcome == VCUBE_OUTCOME_TESTED_TOLD)
-        counts.lefts++;
-    if (entry->status == VCUBE_STATUS_ALONE)
-        counts.lefts++;
+    counts.lefts += entry->outcome == VCUBE_OUTCOME_TOLD || entry->outcome == VCUBE_OUTCOME_TESTED_TOLD;
+    counts.lefts += entry->status == VCUBE_STATUS_ALONE;
 }
 
 static void master_fault(void *context, const struct vcube_fault *fault)
@@ -783,10 +774,8 @@ static void run_until(uint64_t moment)
 
 static void plan(enum action action, size_t part, uint32_t kind, unsigned count, bool is_behind, uint64_t moment, uint64_t duration)
 {
-    const struct plan new_plan = {action, part, kind, count, is_behind, moment, duration};
-
     if (plan_count < MOST_PLANS)
-        plans[plan_count++] = new_plan;
+        plans[plan_count++] = (struct plan){action, part, kind, count, is_behind, moment, duration};
 }
 
 /* A kill or a stop, at a frame that ends a turn, at a test or a reply, as it asks for a frame, or at any moment. The master may be stopped too. */
@@ -1711,9 +1700,7 @@ static void try_largest(size_t wiring)
     const size_t dead = 5;
     unsigned expected = 0;
 
-    memset(&scene, 0, sizeof scene);
-    scene.wiring = wiring;
-    scene.is_by_kind = true;
+    scene = (struct scene){.wiring = wiring, .is_by_kind = true};
     set_size(MOST_BOARDS);
     plan_count = 0;
     begin_run();
