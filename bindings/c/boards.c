@@ -159,5 +159,6 @@ int main(void)
     boards[1].line[0] = VCUBE_STATUS_CRASHED;
     if (RUN(on_ring))
         return 1;
-    return begin(VCUBE_WIRING_CUBE) || RUN(worked_run) || begin(VCUBE_WIRING_CUBE) || RUN(late_after_passes);
+    return begin(VCUBE_WIRING_CUBE) || RUN(worked_run) || begin(VCUBE_WIRING_CUBE) || RUN(late_after_passes) ||
+           fflush(stdout) != 0 || ferror(stdout);
 }

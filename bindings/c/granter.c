@@ -114,5 +114,5 @@ int main(void)
         known = known_by(&plant);
         printf("%d is known by %zu of %d\n", DEAD, known, N - 1);
     }
-    return known != N - 1;
+    return known != N - 1 || fflush(stdout) != 0 || ferror(stdout);
 }

@@ -176,5 +176,5 @@ int main(void)
     if (convert(stored, sizeof stored))
         return 1;
     print_plant("converted and loaded", &panel);
-    return print_saved(&panel) || !convert(elsewhere, sizeof elsewhere);
+    return print_saved(&panel) || !convert(elsewhere, sizeof elsewhere) || fflush(stdout) != 0 || ferror(stdout);
 }

@@ -200,5 +200,5 @@ int main(void)
     if (print_group(N, 3, 2) || print_group(11, 2, 4) || print_assignment(0) || print_assignment(2) ||
         print_assignment(3) || print_lines())
         return 1;
-    return run(late_after_passes, sizeof late_after_passes) || print_lines() || print_mending();
+    return run(late_after_passes, sizeof late_after_passes) || print_lines() || print_mending() || fflush(stdout) != 0 || ferror(stdout);
 }

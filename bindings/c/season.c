@@ -79,5 +79,5 @@ int main(void)
     number = vcube_figures_of_totals(&season, &figures);
     printf("season: ");
     print_figures(number, &figures);
-    return 0;
+    return fflush(stdout) != 0 || ferror(stdout);
 }

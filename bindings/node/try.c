@@ -255,14 +255,12 @@ static void note_answer(const struct vcube_frame *frame)
 static void use_cable(void)
 {
     size_t first = 0;
-    struct vcube_frame frame;
-    size_t from;
 
     for (size_t k = 1; scene.is_by_kind && k < waiting_count; k++)
         if (waiting[k].identifier < waiting[first].identifier)
             first = k;
-    frame = waiting[first];
-    from = waiting_from[first];
+    const struct vcube_frame frame = waiting[first];
+    const size_t from = waiting_from[first];
     waiting_count--;
     memmove(&waiting[first], &waiting[first + 1], (waiting_count - first) * sizeof waiting[0]);
     memmove(&waiting_from[first], &waiting_from[first + 1], (waiting_count - first) * sizeof waiting_from[0]);
@@ -374,8 +372,7 @@ static void part_send(void *context, const struct vcube_frame *frame)
     do_plans(part, kind, false);
     if (part->is_killed)
         return;
-    if (kind == VCUBE_FRAME_ASK)
-        counts.asks++;
+    counts.asks += kind == VCUBE_FRAME_ASK;
     if (number_of(part) < scene.n && nodes[number_of(part)].has_line && nodes[number_of(part)].line[0] != VCUBE_STATUS_LIVE)
         fail("board %zu is not live, and sends a frame of kind %u", number_of(part), (unsigned)kind);
     if (number_of(part) == scene.liar && kind == scene.lie) {
@@ -434,9 +431,7 @@ static bool part_sent(void *context)
 
 static struct vcube_cable cable_of(struct part *part)
 {
-    const struct vcube_cable cable = {part, part_send, part_receive, part_now, scene.tells_sent ? part_sent : NULL};
-
-    return cable;
+    return (struct vcube_cable){part, part_send, part_receive, part_now, scene.tells_sent ? part_sent : NULL};
 }
 
 /* ---- What is compared ---- */
@@ -496,15 +491,13 @@ static void count_wait(const struct vcube_entry *entry)
 /* What is entered is what the granted board sent as the end of its turn; it is late just if the board tested is live in the table before. */
 static void compare_entry(const struct vcube_entry *entry, const uint8_t *before)
 {
-    bool is_tested_live;
-
     if (entry->kind == VCUBE_KIND_CRASH)
         return;
     if (scene.undead == scene.n && !(ends_said[entry->station] >> entry->outcome & 1))
         fail("entry of board %d with outcome %d, which it did not send", entry->station, entry->outcome);
     if (entry->tested == VCUBE_NO_STATION)
         return;
-    is_tested_live = before[entry->tested * VCUBE_LINE_LENGTH(scene.n)] == VCUBE_STATUS_LIVE;
+    const bool is_tested_live = before[entry->tested * VCUBE_LINE_LENGTH(scene.n)] == VCUBE_STATUS_LIVE;
     if ((entry->kind == VCUBE_KIND_LATE_TURN) != (entry->outcome == VCUBE_OUTCOME_NO_REPLY && is_tested_live))
         fail("entry of kind %d of board %d with outcome %d, which tested %d", entry->kind, entry->station, entry->outcome, entry->tested);
 }
@@ -572,10 +565,8 @@ static void master_entered(void *context, const struct vcube_entry *entry)
         if (!was_away(entry->station) && !has_fault)
             without_cause(&counts.crashes_without_cause, entry);
     }
-    if (entry->outcome == VCUBE_OUTCOME_TOLD || entry->outcome == VCUBE_OUTCOME_TESTED_TOLD)
-        counts.lefts++;
-    if (entry->status == VCUBE_STATUS_ALONE)
-        counts.lefts++;
+    counts.lefts += entry->outcome == VCUBE_OUTCOME_TOLD || entry->outcome == VCUBE_OUTCOME_TESTED_TOLD;
+    counts.lefts += entry->status == VCUBE_STATUS_ALONE;
 }
 
 static void master_fault(void *context, const struct vcube_fault *fault)
@@ -783,24 +774,15 @@ static void run_until(uint64_t moment)
 
 static void plan(enum action action, size_t part, uint32_t kind, unsigned count, bool is_behind, uint64_t moment, uint64_t duration)
 {
-    const struct plan new_plan = {action, part, kind, count, is_behind, moment, duration};
-
     if (plan_count < MOST_PLANS)
-        plans[plan_count++] = new_plan;
+        plans[plan_count++] = (struct plan){action, part, kind, count, is_behind, moment, duration};
 }
 
 /* A kill or a stop, at a frame that ends a turn, at a test or a reply, as it asks for a frame, or at any moment. The master may be stopped too. */
 static void plan_at_random(enum action action)
 {
-    static const uint32_t kinds[] = {0,
-                                     0,
-                                     VCUBE_FRAME_TEST,
-                                     VCUBE_FRAME_REPLY,
-                                     VCUBE_FRAME_EXCHANGE,
-                                     VCUBE_FRAME_FINISHED,
-                                     VCUBE_FRAME_NO_REPLY,
-                                     ASKS_FOR_FRAME,
-                                     ASKS_FOR_FRAME};
+    static const uint32_t kinds[] = {0, 0, VCUBE_FRAME_TEST, VCUBE_FRAME_REPLY, VCUBE_FRAME_EXCHANGE, VCUBE_FRAME_FINISHED, VCUBE_FRAME_NO_REPLY,
+                                     ASKS_FOR_FRAME, ASKS_FOR_FRAME};
     struct plan new_plan;
 
     new_plan.action = action;
@@ -818,10 +800,7 @@ static void plan_at_random(enum action action)
 /* A scene of n boards that all keep the rules. */
 static void set_size(size_t n)
 {
-    scene.n = n;
-    scene.early = n;
-    scene.liar = n;
-    scene.undead = n;
+    scene.n = scene.early = scene.liar = scene.undead = n;
 }
 
 static void choose(uint64_t seed)
@@ -926,45 +905,22 @@ static void choose_fault(uint64_t seed)
 
 static void begin_run(void)
 {
-    static const struct vcube_times usual = VCUBE_TIMES_USUAL;
-    const size_t length = VCUBE_TABLE_LENGTH(scene.n);
-
-    event_count = 0;
-    clock_now = 0;
-    cable_free = 0;
-    held_count = 0;
-    waiting_count = 0;
-    made = 0;
-    has_saved = false;
-    is_save_lost = false;
+    event_count = held_count = waiting_count = made = 0;
+    clock_now = cable_free = 0;
     waited_rounds = 0;
+    has_saved = is_save_lost = has_wrong = has_fault = has_lied = has_replied_dead = false;
     memset(ends_said, 0, sizeof ends_said);
-    has_wrong = false;
-    has_fault = false;
-    has_lied = false;
-    has_replied_dead = false;
     memset(must_know, 0, sizeof must_know);
     memset(parts, 0, sizeof parts);
-    if (vcube_fresh_table(scene.wiring, scene.n, TABLE_OF(0), length))
+    if (vcube_fresh_table(scene.wiring, scene.n, TABLE_OF(0), VCUBE_TABLE_LENGTH(scene.n)))
         fail("no fresh table");
-    memset(&master_settings, 0, sizeof master_settings);
-    master_settings.wiring = scene.wiring;
-    master_settings.n = scene.n;
-    master_settings.times = usual;
-    master_settings.stops_at_fault = scene.stops_at_fault;
-    master_settings.entered = master_entered;
-    master_settings.fault = master_fault;
-    master_settings.save = master_save;
-    master_settings.silence = master_silence;
+    master_settings = (struct vcube_master_settings){
+        .wiring = scene.wiring, .n = scene.n, .times = VCUBE_TIMES_USUAL, .stops_at_fault = scene.stops_at_fault,
+        .entered = master_entered, .fault = master_fault, .save = master_save, .silence = master_silence};
     for (size_t k = 0; k < scene.n; k++) {
-        memset(&node_settings[k], 0, sizeof node_settings[k]);
-        node_settings[k].wiring = scene.wiring;
-        node_settings[k].n = scene.n;
-        node_settings[k].own = k;
-        node_settings[k].times = usual;
-        node_settings[k].quiet = QUIET;
-        node_settings[k].in_force = node_in_force;
-        node_settings[k].context = &parts[k];
+        node_settings[k] = (struct vcube_node_settings){
+            .wiring = scene.wiring, .n = scene.n, .own = k, .times = VCUBE_TIMES_USUAL, .quiet = QUIET,
+            .in_force = node_in_force, .context = &parts[k]};
         start_part(&parts[k]);
     }
     start_part(&parts[scene.n]);
@@ -1288,6 +1244,13 @@ static void step_master(uint32_t milliseconds)
     }
 }
 
+/* The board hears a frame, with a row of zeros or without data. */
+static void hear(size_t sender, uint32_t kind, uint32_t number, size_t length)
+{
+    come_alone(sender, 1, kind, number, length, (const uint8_t[]){0});
+    step_board();
+}
+
 /* A note of entry `number`, with a grant to `granted`. */
 static void hear_note_of(size_t sender, uint32_t number, size_t granted, unsigned kind_and_outcome, unsigned station, unsigned tested)
 {
@@ -1319,6 +1282,12 @@ static void hear_row_of(uint32_t number)
     step_board();
 }
 
+static void hear_line_of(uint32_t number)
+{
+    hear_head_of(number);
+    hear_row_of(number);
+}
+
 static bool is_on(void)
 {
     return vcube_node_outputs_on(&nodes[1], bench.now);
@@ -1326,16 +1295,10 @@ static bool is_on(void)
 
 static void start_board(void)
 {
-    static const struct vcube_times usual = VCUBE_TIMES_USUAL;
-    struct vcube_node_settings settings;
+    const struct vcube_node_settings settings = {
+        .wiring = VCUBE_WIRING_CUBE, .n = CASE_BOARDS, .own = 1, .times = VCUBE_TIMES_USUAL, .quiet = QUIET};
 
     memset(&bench, 0, sizeof bench);
-    memset(&settings, 0, sizeof settings);
-    settings.wiring = VCUBE_WIRING_CUBE;
-    settings.n = CASE_BOARDS;
-    settings.own = 1;
-    settings.times = usual;
-    settings.quiet = QUIET;
     need(vcube_node_start(&nodes[1], &settings) == VCUBE_ACCEPTED, "the board starts");
 }
 
@@ -1344,23 +1307,15 @@ static void start_in_step(uint32_t number)
 {
     start_board();
     hear_note_of(0, number, 0, NOTE_FINISHED, 0, VCUBE_NO_STATION);
-    hear_head_of(number);
-    hear_row_of(number);
+    hear_line_of(number);
     need(nodes[1].has_line && nodes[1].entries == number && is_on(), "a board that starts takes its line, and its outputs go on");
 }
 
 static void start_master(void)
 {
-    static const struct vcube_times usual = VCUBE_TIMES_USUAL;
-
     memset(&bench, 0, sizeof bench);
-    memset(&master_settings, 0, sizeof master_settings);
-    master_settings.wiring = VCUBE_WIRING_CUBE;
-    master_settings.n = CASE_BOARDS;
-    master_settings.times = usual;
-    master_settings.silence = bench_silence;
-    master_settings.entered = bench_entered;
-    master_settings.fault = bench_fault;
+    master_settings = (struct vcube_master_settings){.wiring = VCUBE_WIRING_CUBE, .n = CASE_BOARDS, .times = VCUBE_TIMES_USUAL,
+                                                     .silence = bench_silence, .entered = bench_entered, .fault = bench_fault};
     need(vcube_master_start(&master, &master_settings) == VCUBE_ACCEPTED, "the master starts");
 }
 
@@ -1524,24 +1479,19 @@ static void try_halves(void)
 /* A turn is made once, by a reply of this turn and of the board tested. Of exchanges that of the turn that is entered is joined. */
 static void try_turn(void)
 {
-    const uint8_t row[1] = {0};
-
     start_in_step(5);
     hear_note_of(0, 5, 1, NOTE_FINISHED, 0, VCUBE_NO_STATION);
     need(count_out(VCUBE_FRAME_TEST) == 1 && nodes[1].tested == 0, "a board that is granted tests");
-    come_alone(2, 1, VCUBE_FRAME_REPLY, 6, sizeof row, row);
-    come_alone(0, 1, VCUBE_FRAME_REPLY, 5, sizeof row, row);
-    step_board();
+    come_alone(2, 1, VCUBE_FRAME_REPLY, 6, 1, (const uint8_t[]){0});
+    hear(0, VCUBE_FRAME_REPLY, 5, 1);
     need(nodes[1].turn == VCUBE_NODE_TESTING, "a reply of another board, or of another turn, is thrown away");
-    come_alone(0, 1, VCUBE_FRAME_REPLY, 6, sizeof row, row);
-    step_board();
+    hear(0, VCUBE_FRAME_REPLY, 6, 1);
     need(count_out(VCUBE_FRAME_EXCHANGE) == 1, "the reply ends the turn");
     hear_note_of(0, 5, 1, NOTE_FINISHED, 0, VCUBE_NO_STATION);
     need(count_out(VCUBE_FRAME_EXCHANGE) == 1 && count_out(VCUBE_FRAME_TEST) == 0, "an ended turn is not made again, and its end is sent again");
     for (uint8_t tester = 0; tester <= 2; tester += 2) {
         start_in_step(5);
-        come_alone(tester, 1, VCUBE_FRAME_EXCHANGE, 6, sizeof row, row);
-        step_board();
+        hear(tester, VCUBE_FRAME_EXCHANGE, 6, 1);
         hear_note_of(0, 6, 0, NOTE_OF(VCUBE_KIND_TURN, VCUBE_OUTCOME_EXCHANGED), 0, 1);
         need(nodes[1].entries == (tester == 0 ? 6u : 5u), "the exchange of the board whose turn is entered is joined, and no other");
     }
@@ -1551,18 +1501,14 @@ static void try_turn(void)
 static void try_behind(void)
 {
     start_in_step(5);
-    come_alone(0, 1, VCUBE_FRAME_TEST, 6, 0, NULL);
-    step_board();
+    hear(0, VCUBE_FRAME_TEST, 6, 0);
     need(count_out(VCUBE_FRAME_REPLY) == 1, "a board in step answers");
     hear_note_of(0, 7, 0, NOTE_FINISHED, 0, VCUBE_NO_STATION);
-    come_alone(0, 1, VCUBE_FRAME_TEST, 6, 0, NULL);
-    step_board();
+    hear(0, VCUBE_FRAME_TEST, 6, 0);
     need(count_out(VCUBE_FRAME_REPLY) == 0, "a board that is behind answers no test");
-    come_alone(0, 1, VCUBE_FRAME_TEST, 8, 0, NULL);
-    step_board();
+    hear(0, VCUBE_FRAME_TEST, 8, 0);
     need(count_out(VCUBE_FRAME_REPLY) == 0, "nor one of a later turn");
-    hear_head_of(7);
-    hear_row_of(7);
+    hear_line_of(7);
     need(count_out(VCUBE_FRAME_REPLY) == 1, "it answers the test that it kept, once in step");
 }
 
@@ -1606,25 +1552,21 @@ static void try_notes(void)
 static void try_old_line(void)
 {
     start_board();
-    hear_head_of(5);
-    hear_row_of(5);
+    hear_line_of(5);
     need(!nodes[1].has_line, "a line that was not asked for is not taken");
     hear_note_of(0, 9, 0, NOTE_FINISHED, 0, VCUBE_NO_STATION);
-    hear_head_of(5);
-    hear_row_of(5);
+    hear_line_of(5);
     need(nodes[1].has_line && nodes[1].entries == 5 && !is_on(), "an old line does not put the outputs on");
     bench.now += 10;
     step_board();
     need(count_out(VCUBE_FRAME_ASK) == 1, "after an old line the board asks again");
-    hear_head_of(9);
-    hear_row_of(9);
+    hear_line_of(9);
     need(nodes[1].entries == 9 && is_on(), "the line of the newest entry puts them on");
 
     start_in_step(5);
     hear_note_of(0, 900, 0, NOTE_FINISHED, 0, VCUBE_NO_STATION);
     bench.now += 60;
-    hear_head_of(7);
-    hear_row_of(7);
+    hear_line_of(7);
     need(nodes[1].entries == 7 && !nodes[1].is_behind, "a number that no master tells again does not keep a board behind");
 }
 
@@ -1654,8 +1596,7 @@ static void try_damage(void)
         bench.now += 10;
         step_board();
         need(count_out(VCUBE_FRAME_ASK) == 1 && count_out(VCUBE_FRAME_REPLY) == 0, "a board with a damaged line asks for its line");
-        hear_head_of(6);
-        hear_row_of(6);
+        hear_line_of(6);
         need(nodes[1].entries == 6 && is_on(), "the master's line is taken in its place");
     }
 }
@@ -1663,8 +1604,6 @@ static void try_damage(void)
 /* A board that is reset in its turn makes it again. If the end of the first time was entered, with another outcome, it asks for its line. */
 static void try_reset(void)
 {
-    const uint8_t row[1] = {0};
-
     for (unsigned is_same = 0; is_same < 2; is_same++) {
         start_in_step(5);
         hear_note_of(0, 5, 1, NOTE_FINISHED, 0, VCUBE_NO_STATION);
@@ -1673,8 +1612,7 @@ static void try_reset(void)
         need(count_out(VCUBE_FRAME_NO_REPLY) == 1, "a test that is not replied to ends the turn");
         start_in_step(5);
         hear_note_of(0, 5, 1, NOTE_FINISHED, 0, VCUBE_NO_STATION);
-        come_alone(0, 1, VCUBE_FRAME_REPLY, 6, sizeof row, row);
-        step_board();
+        hear(0, VCUBE_FRAME_REPLY, 6, 1);
         need(count_out(VCUBE_FRAME_EXCHANGE) == 1, "after a reset the turn is made again");
         hear_note_of(0, 6, 0, is_same ? NOTE_OF(VCUBE_KIND_TURN, VCUBE_OUTCOME_EXCHANGED) : NOTE_OF(VCUBE_KIND_LATE_TURN, VCUBE_OUTCOME_NO_REPLY), 1,
                      0);
@@ -1762,9 +1700,7 @@ static void try_largest(size_t wiring)
     const size_t dead = 5;
     unsigned expected = 0;
 
-    memset(&scene, 0, sizeof scene);
-    scene.wiring = wiring;
-    scene.is_by_kind = true;
+    scene = (struct scene){.wiring = wiring, .is_by_kind = true};
     set_size(MOST_BOARDS);
     plan_count = 0;
     begin_run();
@@ -1792,21 +1728,11 @@ static void compare_counts(void)
         const char *what;
         unsigned long count;
         unsigned long least;
-    } all[] = {{"entries", counts.entries, 20000},
-               {"lines of boards", counts.records, 200000},
-               {"lines that know who is dead", counts.known, 20000},
-               {"boards killed", counts.killed, 50},
-               {"stops", counts.stopped, 60},
-               {"boards started again", counts.again, 20},
-               {"masters started again", counts.masters, 5},
-               {"outages", counts.outages, 10},
-               {"faults named", counts.named, 10},
-               {"stops at a fault", counts.stopped_at_fault, 5},
-               {"late replies", counts.lates, 60},
-               {"crashes", counts.crashes, 50},
-               {"boards left", counts.lefts, 40},
-               {"asks", counts.asks, 9000},
-               {"silences", counts.silences, 10},
+    } all[] = {{"entries", counts.entries, 20000}, {"lines of boards", counts.records, 200000}, {"lines that know who is dead", counts.known, 20000},
+               {"boards killed", counts.killed, 50}, {"stops", counts.stopped, 60}, {"boards started again", counts.again, 20},
+               {"masters started again", counts.masters, 5}, {"outages", counts.outages, 10}, {"faults named", counts.named, 10},
+               {"stops at a fault", counts.stopped_at_fault, 5}, {"late replies", counts.lates, 60}, {"crashes", counts.crashes, 50},
+               {"boards left", counts.lefts, 40}, {"asks", counts.asks, 9000}, {"silences", counts.silences, 10},
                {"outputs that go off", counts.off, 500}};
 
     for (size_t k = 0; counts.runs >= 100 && k < sizeof all / sizeof all[0]; k++)
@@ -1835,12 +1761,10 @@ int main(int count, char **words)
     }
     printf("%lu runs, %lu entries, %lu frames: %lu lines of boards are the table's, %lu of them know who is dead; %lu boards killed, %lu stops, "
            "%lu boards and %lu masters started again, %lu outages, %lu named (%lu stopped there); %lu late, %lu crashes, %lu left, %lu asks, "
-           "%lu behind at the end; "
-           "without cause %lu late, %lu crashes\n",
+           "%lu behind at the end; without cause %lu late, %lu crashes\n",
            counts.runs, counts.entries, counts.frames, counts.records, counts.known, counts.killed, counts.stopped, counts.again, counts.masters,
            counts.outages, counts.named, counts.stopped_at_fault, counts.lates, counts.crashes, counts.lefts, counts.asks, counts.behind,
-           counts.lates_without_cause,
-           counts.crashes_without_cause);
+           counts.lates_without_cause, counts.crashes_without_cause);
     compare_counts();
     return 0;
 }

@@ -2,29 +2,35 @@
  *
  * Usage: power FOLDER KILLS
  *
- * A step is a byte written to a file, or a call that opens, syncs or renames one; in flash a bit erased or written. The save ends at that step; with
- * files the process is also killed there, and KILLS times from outside. The next start has to read the plant as it was before the save or as it is
- * after it, and then to save. */
+ * A step is a byte written to a file, or a call that opens, syncs or renames one; in flash a bit erased or written. The process that saves is killed
+ * at that step; with files also KILLS times at any moment. The next start has to read the plant as it was before the save or as it is after it, and
+ * then to save. */
 #define _GNU_SOURCE
 #include "vcube_plant.h"
 
 #include <fcntl.h>
-#include <setjmp.h>
+#include <limits.h>
 #include <signal.h>
 #include <stdbool.h>
 #include <stdio.h>
 #include <stdlib.h>
 #include <string.h>
+#include <sys/mman.h>
 #include <sys/wait.h>
 #include <unistd.h>
 
-#define NEVER 1000000L
 #define NAME "plant.saved"
 
-static long left = NEVER; /* steps until power is lost */
-static bool is_killed;
-static jmp_buf next_start;
-static uint8_t flash[2][VCUBE_SAVED_LENGTH(8) + 1];
+static long left = LONG_MAX; /* steps until power is lost */
+
+/* What is there after the process. Of the file beside: how many bytes, and how many for certain; whether the new name may be there, and is. */
+static struct {
+    uint8_t flash[2][VCUBE_SAVED_LENGTH(8) + 1];
+    size_t written, synced;
+    bool is_renamed, is_renamed_for_certain;
+    int opened;
+} *it;
+#define flash it->flash
 
 static void require(bool is_so, const char *otherwise, long at)
 {
@@ -36,11 +42,8 @@ static void require(bool is_so, const char *otherwise, long at)
 
 static void step(void)
 {
-    if (left-- > 0)
-        return;
-    if (is_killed)
+    if (left-- == 0)
         raise(SIGKILL);
-    longjmp(next_start, 1);
 }
 
 static void erase(int copy)
@@ -60,40 +63,35 @@ static void program_byte(int copy, size_t at, uint8_t byte)
     }
 }
 
-/* Of the file written beside: how many bytes there are, and how many are on the disk for certain; whether the new name may be there, and is. */
-static size_t written, synced;
-static bool is_renamed, is_renamed_for_certain;
-static int opened = -1;
-
 static int stepping_open(int folder, const char *name, int flags, mode_t mode)
 {
     step();
-    written = synced = 0;
-    is_renamed = is_renamed_for_certain = false;
-    return opened = openat(folder, name, flags, mode);
+    it->written = it->synced = 0;
+    it->is_renamed = it->is_renamed_for_certain = false;
+    return it->opened = openat(folder, name, flags, mode);
 }
 
 static ssize_t stepping_write(int file, const uint8_t *bytes, size_t length)
 {
     step();
-    written++;
+    it->written++;
     return write(file, bytes, length > 0);
 }
 
 static int stepping_sync(int file)
 {
     step();
-    if (file == opened)
-        synced = written;
+    if (file == it->opened)
+        it->synced = it->written;
     else
-        is_renamed_for_certain = is_renamed;
+        it->is_renamed_for_certain = it->is_renamed;
     return 0;
 }
 
 static int stepping_rename(int from_folder, const char *from, int folder, const char *name)
 {
     step();
-    is_renamed = true;
+    it->is_renamed = true;
     return renameat(from_folder, from, folder, name);
 }
 
@@ -123,7 +121,7 @@ static void make(int which, int drives)
     require(vcube_plant_save(&plants[which], files[which], LENGTH) == VCUBE_ACCEPTED, "a plant is not saved", -1);
 }
 
-/* Which of the two plants the next start reads: -1 for neither. */
+/* Which of the two plants the next start reads: 2 for neither. */
 static int read_it(bool is_file)
 {
     uint8_t bytes[2 * LENGTH], room[VCUBE_TABLE_LENGTH(8)];
@@ -134,8 +132,8 @@ static int read_it(bool is_file)
 
     close(file);
     if ((copy < 0 && length != LENGTH) || vcube_plant_load(&plant, VCUBE_WIRING_CUBE, room, sizeof room, found, LENGTH) != VCUBE_ACCEPTED)
-        return -1;
-    return memcmp(found, files[0], LENGTH) == 0 ? 0 : memcmp(found, files[1], LENGTH) == 0 ? 1 : -1;
+        return 2;
+    return memcmp(found, files[0], LENGTH) == 0 ? 0 : memcmp(found, files[1], LENGTH) == 0 ? 1 : 2;
 }
 
 static int save(bool is_file, int which)
@@ -146,30 +144,23 @@ static int save(bool is_file, int which)
 /* The old plant is saved; power is lost at a step of saving the new one. Gives what the next start reads, or 2 if the save came to its end. */
 static int lose_power(bool is_file, long at)
 {
-    static volatile bool is_lost;
     int status, found;
+    bool is_lost;
+    pid_t child;
 
     require(save(is_file, 0) == 0 && read_it(is_file) == 0, "the old plant is not there", at);
-    is_lost = true;
-    left = at;
-    if (is_killed) {
-        const pid_t child = fork();
-
-        if (child == 0)
-            _exit(save(is_file, 1) == 0 ? 0 : 2);
-        waitpid(child, &status, 0);
-        is_lost = WIFSIGNALED(status);
-    } else if (setjmp(next_start) == 0) {
-        require(save(is_file, 1) == 0, "the new plant is not saved", at);
-        require(!is_file || is_renamed_for_certain, "it is saved, but after a power failure the old one may be there", at);
-        is_lost = false;
-    } else if (is_file) {
-        close(opened);
+    child = fork();
+    if (child == 0) {
+        left = at;
+        _exit(save(is_file, 1) != 0);
     }
-    left = NEVER;
-    require(!is_file || !is_renamed || synced == LENGTH, "the new name may be on the disk before the bytes", at);
+    waitpid(child, &status, 0);
+    is_lost = WIFSIGNALED(status);
+    require(is_lost || status == 0, "the new plant is not saved", at);
+    require(is_lost || !is_file || it->is_renamed_for_certain, "it is saved, but after a power failure the old one may be there", at);
+    require(!is_file || !it->is_renamed || it->synced == LENGTH, "the new name may be on the disk before the bytes", at);
     found = read_it(is_file);
-    require(found >= 0, "the next start reads neither the old plant nor the new one", at);
+    require(found < 2, "the next start reads neither the old plant nor the new one", at);
     require(is_lost || found == 1, "the next start does not read what was saved", at);
     require(save(is_file, 1) == 0 && read_it(is_file) == 1, "the next start cannot save", at);
     return is_lost ? found : 2;
@@ -190,39 +181,35 @@ static void lose_at_each_step(const char *what, bool is_file)
 }
 
 /* A process that saves old and new plant in turn is killed at some moment. */
-static void kill_from_outside(int kills)
+static void kill_at_any_moment(int kills)
 {
-    int read[2] = {0, 0};
+    int read[3] = {0, 0, 0};
 
     for (int k = 0; k < kills; k++) {
         const pid_t child = fork();
-        int which = 0, found;
 
-        for (; child == 0; which = !which)
-            if (left = NEVER, save(true, which) != 0)
+        for (int which = 0; child == 0; which = !which)
+            if (save(true, which) != 0)
                 _exit(2);
         usleep((useconds_t)(1000 + k * 7919 % 5000));
         kill(child, SIGKILL);
         waitpid(child, NULL, 0);
-        found = read_it(true);
-        require(found >= 0, "a process that was killed left neither plant", k);
-        read[found]++;
+        read[read_it(true)]++;
     }
     printf("power: a process that saves is killed %d times: the one plant is read %d times, the other %d times\n", kills, read[0], read[1]);
+    require(read[2] == 0, "a process that was killed left neither plant", -1);
 }
 
 int main(int count, char **words)
 {
-    if (count != 3 || (folder = open(words[1], O_RDONLY | O_DIRECTORY)) < 0) {
+    it = mmap(NULL, sizeof *it, PROT_READ | PROT_WRITE, MAP_SHARED | MAP_ANONYMOUS, -1, 0);
+    if (count != 3 || (folder = open(words[1], O_RDONLY | O_DIRECTORY)) < 0 || it == MAP_FAILED) {
         fputs("Usage: power FOLDER KILLS\n", stderr);
         return 2;
     }
     setvbuf(stdout, NULL, _IOLBF, 0);
     lose_at_each_step("in flash", false);
     lose_at_each_step("in a file", true);
-    is_killed = true;
-    lose_at_each_step("in a file, killed", true);
-    is_killed = false;
-    kill_from_outside(atoi(words[2]));
+    kill_at_any_moment(atoi(words[2]));
     return 0;
 }

@@ -7,6 +7,9 @@
 #include <string.h>
 
 #define THREADS 4
+#ifndef SHARED
+#define SHARED 0
+#endif
 
 struct work {
     size_t wiring, n;
@@ -47,13 +50,8 @@ int main(void)
         together[k].n = alone[k].n = 8 + 3 * k;
         do_work(&alone[k]);
     }
-    for (size_t k = 0; k < THREADS; k++) {
-#ifdef SHARED
-        pthread_create(&threads[k], NULL, do_work, &together[0]);
-#else
-        pthread_create(&threads[k], NULL, do_work, &together[k]);
-#endif
-    }
+    for (size_t k = 0; k < THREADS; k++)
+        pthread_create(&threads[k], NULL, do_work, &together[SHARED ? 0 : k]);
     for (size_t k = 0; k < THREADS; k++)
         pthread_join(threads[k], NULL);
     for (size_t k = 0; k < THREADS; k++)

@@ -15,14 +15,12 @@
 #include <string.h>
 
 static uint32_t pause_turn, pause_for;
+static const char *log_name;
 
 static void write_line(void *context, uint32_t number, const uint8_t *line, size_t length)
 {
-    FILE *const log = context;
-
-    fprintf(log, "board %lu ", (unsigned long)number);
-    host_write_bytes(log, line, length);
-    fputc('\n', log);
+    fprintf(context, "board %lu %s\n", (unsigned long)number, host_digits(line, length));
+    host_write_out(context, log_name);
 }
 
 /* Pauses before the end of a turn is sent for the first time. */
@@ -51,7 +49,7 @@ static void read_options(int count, char **words, struct vcube_node_settings *se
         if (option == 'r') {
             settings->times = host_times(host_number(optarg, 1000000));
         } else if (option == 'l' && (settings->context = fopen(optarg, "w")) != NULL) {
-            setvbuf(settings->context, NULL, _IOLBF, 0);
+            log_name = optarg;
             settings->in_force = write_line;
         } else if (option == 'p' && middle != NULL) {
             *middle = 0;
@@ -95,14 +93,16 @@ int main(int count, char **words)
         host.before_send = pause_at_end;
     cable = host_cable(&host);
     puts("ready");
-    fflush(stdout);
+    host_write_out(stdout, "standard output");
     while (!host_is_over()) {
         bool are_on;
 
         vcube_node_step(&node, &cable);
         are_on = vcube_node_outputs_on(&node, host_now());
-        if (are_on != were_on && settings.context != NULL)
+        if (are_on != were_on && settings.context != NULL) {
             fprintf(settings.context, "outputs %s\n", are_on ? "on" : "off");
+            host_write_out(settings.context, log_name);
+        }
         were_on = are_on;
     }
     host_tell_pause(&host.pauses);

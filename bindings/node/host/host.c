@@ -8,6 +8,7 @@
 #include <netinet/in.h>
 #include <poll.h>
 #include <signal.h>
+#include <stdarg.h>
 #include <stdlib.h>
 #include <string.h>
 #include <sys/prctl.h>
@@ -39,22 +40,41 @@ void host_forget_signal(void)
 
 void host_signals(void)
 {
-    struct sigaction action;
-
-    memset(&action, 0, sizeof action);
-    action.sa_handler = on_signal;
     /* A line that is being printed is printed whole; ppoll is interrupted all the same. */
-    action.sa_flags = SA_RESTART;
+    const struct sigaction action = {.sa_handler = on_signal, .sa_flags = SA_RESTART};
+
     sigaction(SIGTERM, &action, NULL);
     signal(SIGINT, SIG_IGN);
     signal(SIGHUP, SIG_IGN);
+    signal(SIGPIPE, SIG_IGN);
     prctl(PR_SET_PDEATHSIG, SIGKILL);
 }
 
-static void fail(const char *what, const char *name)
+void host_fail(const char *what, const char *name)
 {
     fprintf(stderr, "%s: %s: %s\n", what, name, strerror(errno));
     exit(1);
+}
+
+void host_write_out(FILE *file, const char *name)
+{
+    if (fflush(file) == 0 && !ferror(file))
+        return;
+    if (errno == EPIPE)
+        exit(0);
+    host_fail("it cannot be written", name);
+}
+
+void host_say(const char *kind, const char *words, ...)
+{
+    va_list values;
+
+    printf("%lu %s ", (unsigned long)host_now(), kind);
+    va_start(values, words);
+    vprintf(words, values);
+    va_end(values);
+    putchar('\n');
+    host_write_out(stdout, "standard output");
 }
 
 uint32_t host_number(const char *text, uint32_t most)
@@ -71,13 +91,7 @@ uint32_t host_number(const char *text, uint32_t most)
 
 struct vcube_times host_times(uint32_t reply)
 {
-    struct vcube_times times;
-
-    times.reply = reply;
-    times.repeat = reply / 4 > 0 ? reply / 4 : 1;
-    times.grant = 2 * reply + 10;
-    times.probe = reply;
-    return times;
+    return (struct vcube_times){.reply = reply, .repeat = reply / 4 > 0 ? reply / 4 : 1, .grant = 2 * reply + 10, .probe = reply};
 }
 
 size_t host_wiring(const char *name)
@@ -90,12 +104,14 @@ size_t host_wiring(const char *name)
     exit(2);
 }
 
-void host_write_bytes(FILE *to, const uint8_t *bytes, size_t length)
+const char *host_digits(const uint8_t *bytes, size_t length)
 {
+    static char digits[2 * VCUBE_TABLE_LENGTH(VCUBE_MOST_STATIONS) + 1];
     size_t place;
 
     for (place = 0; place < length; place++)
-        fprintf(to, "%02x", bytes[place]);
+        sprintf(digits + 2 * place, "%02x", bytes[place]);
+    return digits;
 }
 
 /* Microseconds for which this process has slept because it was asked to. */
@@ -103,10 +119,8 @@ static uint64_t slept;
 
 void host_pause(uint32_t milliseconds)
 {
-    struct timespec time;
+    const struct timespec time = {(time_t)(milliseconds / 1000), (long)(milliseconds % 1000) * 1000000};
 
-    time.tv_sec = (time_t)(milliseconds / 1000);
-    time.tv_nsec = (long)(milliseconds % 1000) * 1000000;
     nanosleep(&time, NULL);
     slept += 1000 * (uint64_t)milliseconds;
 }
@@ -153,10 +167,8 @@ void host_tell_pause(const struct host_pauses *pauses)
 {
     const uint64_t now = host_clock(), should_run = now - pauses->ready_at, ran = run_time() - pauses->run_time;
 
-    if (pauses->longest > 0 && pauses->ready_at > 0 && should_run > ran + 1000 * (uint64_t)pauses->longest) {
-        printf("%lu paused %lu\n", (unsigned long)(uint32_t)(now / 1000), (unsigned long)((should_run - ran) / 1000));
-        fflush(stdout);
-    }
+    if (pauses->longest > 0 && pauses->ready_at > 0 && should_run > ran + 1000 * (uint64_t)pauses->longest)
+        host_say("paused", "%lu", (unsigned long)((should_run - ran) / 1000));
 }
 
 /* When the datagram had come that will be read next. */
@@ -166,22 +178,17 @@ static uint64_t next_arrival(int socket)
         struct cmsghdr head;
         uint8_t bytes[256];
     } control;
-    struct msghdr message;
+    struct msghdr message = {.msg_control = control.bytes, .msg_controllen = sizeof control.bytes};
 
-    memset(&message, 0, sizeof message);
-    message.msg_control = control.bytes;
-    message.msg_controllen = sizeof control.bytes;
     return recvmsg(socket, &message, MSG_DONTWAIT | MSG_PEEK) >= 0 ? host_arrival(&message) : host_clock();
 }
 
 void host_wait(struct host_pauses *pauses, int socket, uint64_t microseconds)
 {
     struct pollfd it = {socket, POLLIN, 0};
-    struct timespec limit;
+    const struct timespec limit = {(time_t)(microseconds / 1000000), (long)(microseconds % 1000000 * 1000)};
     uint64_t begin, ready_at;
 
-    limit.tv_sec = (time_t)(microseconds / 1000000);
-    limit.tv_nsec = (long)(microseconds % 1000000 * 1000);
     host_tell_pause(pauses);
     begin = host_clock();
     ready_at = ppoll(&it, 1, &limit, NULL) == 0 ? begin + microseconds : next_arrival(socket);
@@ -200,46 +207,37 @@ static void wait_until(struct host *host, uint32_t until)
 /* Joins the hub's cable: an empty datagram, until it is answered by one. */
 static void open_udp(struct host *host, const char *port)
 {
-    struct sockaddr_in hub;
+    const struct sockaddr_in hub = {
+        .sin_family = AF_INET, .sin_addr.s_addr = htonl(INADDR_LOOPBACK), .sin_port = htons((uint16_t)host_number(port, 65535))};
     const int room = 1 << 20, yes = 1;
     int tries;
     char byte;
 
-    memset(&hub, 0, sizeof hub);
-    hub.sin_family = AF_INET;
-    hub.sin_addr.s_addr = htonl(INADDR_LOOPBACK);
-    hub.sin_port = htons((uint16_t)host_number(port, 65535));
     host->socket = socket(AF_INET, SOCK_DGRAM, 0);
     if (host->socket < 0 || connect(host->socket, (const struct sockaddr *)&hub, sizeof hub) != 0)
-        fail("no cable udp", port);
+        host_fail("no cable udp", port);
     setsockopt(host->socket, SOL_SOCKET, SO_RCVBUF, &room, sizeof room);
     setsockopt(host->socket, SOL_SOCKET, SO_TIMESTAMPNS, &yes, sizeof yes);
     for (tries = 0; tries < 100 && !is_over; tries++) {
-        struct pollfd it;
+        struct pollfd it = {host->socket, POLLIN, 0};
 
-        it.fd = host->socket;
-        it.events = POLLIN;
-        it.revents = 0;
         send(host->socket, NULL, 0, 0);
         if (poll(&it, 1, 100) > 0 && recv(host->socket, &byte, 1, MSG_DONTWAIT) >= 0)
             return;
     }
     errno = ETIMEDOUT;
-    fail("no hub at port", port);
+    host_fail("no hub at port", port);
 }
 
 static void open_can(struct host *host, const char *interface)
 {
-    struct sockaddr_can place;
+    const struct sockaddr_can place = {.can_family = AF_CAN, .can_ifindex = (int)if_nametoindex(interface)};
 
-    memset(&place, 0, sizeof place);
-    place.can_family = AF_CAN;
     host->socket = socket(PF_CAN, SOCK_RAW, CAN_RAW);
     if (host->socket < 0)
-        fail("no SocketCAN", interface);
-    place.can_ifindex = (int)if_nametoindex(interface);
+        host_fail("no SocketCAN", interface);
     if (place.can_ifindex == 0 || bind(host->socket, (const struct sockaddr *)&place, sizeof place) != 0)
-        fail("no cable can", interface);
+        host_fail("no cable can", interface);
 }
 
 void host_open(struct host *host, const char *name)
@@ -263,11 +261,8 @@ static void send_frame(void *context, const struct vcube_frame *frame)
     if (host->before_send != NULL)
         host->before_send(frame);
     if (host->is_can) {
-        struct can_frame it;
+        struct can_frame it = {.can_id = frame->identifier | CAN_EFF_FLAG, .can_dlc = frame->length};
 
-        memset(&it, 0, sizeof it);
-        it.can_id = frame->identifier | CAN_EFF_FLAG;
-        it.can_dlc = frame->length;
         memcpy(it.data, frame->data, frame->length);
         send(host->socket, &it, sizeof it, 0);
     } else {
@@ -337,12 +332,5 @@ static uint32_t now(void *context)
 
 struct vcube_cable host_cable(struct host *host)
 {
-    struct vcube_cable cable;
-
-    cable.context = host;
-    cable.send = send_frame;
-    cable.receive = receive_frame;
-    cable.now = now;
-    cable.sent = NULL;
-    return cable;
+    return (struct vcube_cable){.context = host, .send = send_frame, .receive = receive_frame, .now = now};
 }

@@ -55,7 +55,7 @@ bool host_is_over(void);
 /* Forgets the signal, so that frames are received again. */
 void host_forget_signal(void);
 
-/* Ends the program with its parent. SIGTERM ends the loop; SIGINT and SIGHUP are left to the parent. */
+/* Ends the program with its parent. SIGTERM ends the loop; SIGINT and SIGHUP are left to the parent, and SIGPIPE to host_write_out. */
 void host_signals(void);
 
 /* A number of the command line, or the program ends with status 2. */
@@ -68,7 +68,16 @@ struct vcube_times host_times(uint32_t reply);
 /* The wiring of that name, or the program ends with status 2. */
 size_t host_wiring(const char *name);
 
-/* Writes bytes as hexadecimal digits. */
-void host_write_bytes(FILE *to, const uint8_t *bytes, size_t length);
+/* Bytes as hexadecimal digits, until the next call; as many as a table has at most. */
+const char *host_digits(const uint8_t *bytes, size_t length);
+
+/* Prints a line: the present moment, its kind, and words as of printf. */
+void host_say(const char *kind, const char *words, ...);
+
+/* Hands over what was written. Where that cannot be done, the program says so and ends with status 1; with 0 where the reader of a pipe is gone. */
+void host_write_out(FILE *file, const char *name);
+
+/* Says why the last call of the system failed, and ends the program with status 1. */
+void host_fail(const char *what, const char *name);
 
 #endif

@@ -20,21 +20,17 @@
 #define _GNU_SOURCE
 #include "host.h"
 #include <arpa/inet.h>
-#include <errno.h>
 #include <netinet/in.h>
 #include <signal.h>
-#include <stdbool.h>
-#include <stdint.h>
-#include <stdio.h>
 #include <stdlib.h>
 #include <string.h>
-#include <sys/prctl.h>
 #include <sys/socket.h>
 #include <unistd.h>
 
 #define MOST_JOINED 128
 #define MOST_WAITING 16384
 #define LONGEST 13
+#define MOST_NUMBER 1000000000
 
 /* A frame on its way to one receiver. */
 struct waiting {
@@ -50,6 +46,7 @@ struct settings {
     bool holds;
     uint32_t hold_sender, hold_for;
     FILE *log;
+    const char *log_name;
     uint32_t longest_wait;
 };
 
@@ -57,16 +54,11 @@ static struct sockaddr_in joined[MOST_JOINED];
 static size_t joined_count;
 static struct waiting waiting[MOST_WAITING];
 static size_t first_waiting, waiting_count;
-static volatile sig_atomic_t is_out, is_over;
+static volatile sig_atomic_t is_out;
 
 static void on_signal(int number)
 {
-    if (number == SIGUSR1)
-        is_out = 1;
-    else if (number == SIGUSR2)
-        is_out = 0;
-    else
-        is_over = 1;
+    is_out = number == SIGUSR1;
 }
 
 /* A number drawn by three others (splitmix64). */
@@ -197,13 +189,15 @@ static ssize_t take_datagram(int socket_, uint8_t *bytes, size_t room, struct so
     return length;
 }
 
-static void write_log(FILE *log, const uint8_t *bytes, size_t length, uint64_t arrival, uint64_t due)
+static void write_log(const struct settings *settings, const uint8_t *bytes, size_t length, uint64_t arrival, uint64_t due)
 {
     const uint64_t time = host_clock(), passed = time > due ? time : due;
 
-    if (log != NULL && length >= 5)
-        fprintf(log, "%lu %lu %02x%02x%02x%02x %zu\n", (unsigned long)(arrival / 1000 & UINT32_MAX), (unsigned long)(passed / 1000 & UINT32_MAX),
-                bytes[0], bytes[1], bytes[2], bytes[3], length - 5);
+    if (settings->log == NULL || length < 5)
+        return;
+    if (fprintf(settings->log, "%lu %lu %s %zu\n", (unsigned long)(arrival / 1000 & UINT32_MAX), (unsigned long)(passed / 1000 & UINT32_MAX),
+                host_digits(bytes, 4), length - 5) < 0)
+        host_fail("it cannot be written", settings->log_name);
 }
 
 static void wait_for_more(struct host_pauses *pauses, int socket_)
@@ -216,42 +210,30 @@ static void wait_for_more(struct host_pauses *pauses, int socket_)
     host_wait(pauses, socket_, pause);
 }
 
-static uint32_t number_in(const char *text)
-{
-    char *end;
-    const unsigned long value = strtoul(text, &end, 10);
-
-    if (*text < '0' || *text > '9' || *end != 0 || value > 1000000000) {
-        fprintf(stderr, "hub: not a number: %s\n", text);
-        exit(2);
-    }
-    return (uint32_t)value;
-}
-
 static struct settings read_arguments(int count, char **words)
 {
     struct settings settings = {0};
     int place;
 
     for (place = 1; place < count; place += 2) {
-        const char *name = words[place], *value = place + 1 < count ? words[place + 1] : "";
+        const char *const name = words[place], *const value = place + 1 < count ? words[place + 1] : "";
 
         if (strcmp(name, "--seed") == 0)
-            settings.seed = number_in(value);
+            settings.seed = host_number(value, MOST_NUMBER);
         else if (strcmp(name, "--loss") == 0)
-            settings.loss = number_in(value);
+            settings.loss = host_number(value, MOST_NUMBER);
         else if (strcmp(name, "--loss-all") == 0)
-            settings.loss_all = number_in(value);
+            settings.loss_all = host_number(value, MOST_NUMBER);
         else if (strcmp(name, "--twice") == 0)
-            settings.twice = number_in(value);
+            settings.twice = host_number(value, MOST_NUMBER);
         else if (strcmp(name, "--delay") == 0)
-            settings.delay = number_in(value);
+            settings.delay = host_number(value, MOST_NUMBER);
         else if (strcmp(name, "--jitter") == 0)
-            settings.jitter = number_in(value);
+            settings.jitter = host_number(value, MOST_NUMBER);
         else if (strcmp(name, "--reply") == 0)
-            settings.longest_wait = host_times(number_in(value)).repeat;
+            settings.longest_wait = host_times(host_number(value, MOST_NUMBER)).repeat;
         else if (strcmp(name, "--log") == 0 && (settings.log = fopen(value, "w")) != NULL)
-            continue;
+            settings.log_name = value;
         else if (strcmp(name, "--hold") == 0 &&
                  sscanf(value, "%u:%u", &settings.hold_sender, &settings.hold_for) == 2)
             settings.holds = true;
@@ -267,31 +249,22 @@ int main(int count, char **words)
 {
     const struct settings settings = read_arguments(count, words);
     const int socket_ = socket(AF_INET, SOCK_DGRAM | SOCK_CLOEXEC, 0), room = 4 << 20, yes = 1;
-    struct sockaddr_in place = {0};
+    struct sockaddr_in place = {.sin_family = AF_INET, .sin_addr.s_addr = htonl(INADDR_LOOPBACK)};
     socklen_t place_length = sizeof place;
-    struct sigaction action = {0};
+    const struct sigaction action = {.sa_handler = on_signal, .sa_flags = SA_RESTART};
     struct host_pauses pauses = {settings.longest_wait, 0, 0};
 
-    prctl(PR_SET_PDEATHSIG, SIGKILL);
-    action.sa_handler = on_signal;
-    action.sa_flags = SA_RESTART;
+    host_signals();
     sigaction(SIGUSR1, &action, NULL);
     sigaction(SIGUSR2, &action, NULL);
-    sigaction(SIGTERM, &action, NULL);
-    signal(SIGINT, SIG_IGN);
-    signal(SIGHUP, SIG_IGN);
-    place.sin_family = AF_INET;
-    place.sin_addr.s_addr = htonl(INADDR_LOOPBACK);
     if (socket_ < 0 || bind(socket_, (const struct sockaddr *)&place, sizeof place) != 0 ||
-        getsockname(socket_, (struct sockaddr *)&place, &place_length) != 0) {
-        fprintf(stderr, "hub: no socket: %s\n", strerror(errno));
-        return 1;
-    }
+        getsockname(socket_, (struct sockaddr *)&place, &place_length) != 0)
+        host_fail("hub", "no socket");
     setsockopt(socket_, SOL_SOCKET, SO_RCVBUF, &room, sizeof room);
     setsockopt(socket_, SOL_SOCKET, SO_TIMESTAMPNS, &yes, sizeof yes);
     printf("%u\n", (unsigned)ntohs(place.sin_port));
-    fflush(stdout);
-    while (!is_over) {
+    host_write_out(stdout, "standard output");
+    while (!host_is_over()) {
         struct sockaddr_in from;
         uint8_t bytes[64];
         uint64_t arrival, due = 0;
@@ -304,12 +277,12 @@ int main(int count, char **words)
             due = pass_on(&settings, bytes, (size_t)length, &from);
         send_due(socket_);
         if (is_frame)
-            write_log(settings.log, bytes, (size_t)length, arrival, due);
+            write_log(&settings, bytes, (size_t)length, arrival, due);
         if (length < 0)
             wait_for_more(&pauses, socket_);
     }
     host_tell_pause(&pauses);
-    if (settings.log != NULL)
-        fclose(settings.log);
+    if (settings.log != NULL && fclose(settings.log) != 0)
+        host_fail("it cannot be written", settings.log_name);
     return 0;
 }

@@ -1,10 +1,11 @@
 /* The bus master of a plant on one computer: the firmware (master.c) as a process.
  *
- * Usage: master CABLE WIRING SIZE [--reply MS] [--save FILE] [--record FILE] [--pace MS] [--stop-at-fault] [--again]
+ * Usage: master CABLE WIRING SIZE [--reply MS] [--save FILE] [--record FILE] [--no-sync] [--pace MS] [--stop-at-fault] [--again]
  *
  *   --reply MS       how long a board waits for the reply to its test (20)
- *   --save FILE      it keeps what it needs to go on after a crash there
+ *   --save FILE      it keeps what it needs to go on after a crash there, or after a power failure
  *   --record FILE    it writes the run there, as an input of the run program: the first 4,096 entries
+ *   --no-sync        neither need be right after a power failure: an entry then waits for no disk
  *   --pace MS        it rests for so long after each entry: it tells the entry again and again, and grants nobody
  *   --stop-at-fault  it stops when a board does not keep the rules; else that board is entered as crashed
  *   --again          it goes on from what it saved, and with what it recorded; if it saved nothing, it begins
@@ -25,6 +26,9 @@
 #define _GNU_SOURCE
 #include "host.h"
 #include <errno.h>
+#include <fcntl.h>
+#include <getopt.h>
+#include <libgen.h>
 #include <stdlib.h>
 #include <string.h>
 #include <unistd.h>
@@ -38,25 +42,15 @@ struct program {
     struct vcube_master master;
     struct vcube_master_settings settings;
     const char *save;
+    int save_folder;
     const char *record_name;
     FILE *record;
     uint32_t pace;
     uint32_t pace_begin;
-    bool again;
+    int again, no_sync;
 };
 
 static struct program program;
-
-static void fail(const char *name)
-{
-    fprintf(stderr, "master: %s: %s\n", name, strerror(errno));
-    exit(1);
-}
-
-static void begin_line(const char *kind)
-{
-    printf("%lu %s ", (unsigned long)host_now(), kind);
-}
 
 static void write_entry(const struct vcube_entry *entry)
 {
@@ -69,34 +63,25 @@ static void write_entry(const struct vcube_entry *entry)
         fputs("master: the library refuses the table\n", stderr);
         exit(1);
     }
-    begin_line("entry");
-    printf("%lu %u %u %u %u %d %u %zu %zu %zu %zu %zu ", (unsigned long)entry->number, entry->kind, entry->station, entry->tested, entry->outcome,
-           entry->closed, entry->status, by, of, rounds, turns, from_crash);
-    host_write_bytes(stdout, table, VCUBE_TABLE_LENGTH(n));
-    putchar('\n');
-    fflush(stdout);
+    host_say("entry", "%lu %u %u %u %u %d %u %zu %zu %zu %zu %zu %s", (unsigned long)entry->number, entry->kind, entry->station, entry->tested,
+             entry->outcome, entry->closed, entry->status, by, of, rounds, turns, from_crash, host_digits(table, VCUBE_TABLE_LENGTH(n)));
     if (program.record != NULL && entry->number <= MOST_RECORDED) {
-        const char letters[] = " TLC";
-
-        fprintf(program.record, "%c %u\n", letters[entry->kind], entry->station);
-        fflush(program.record);
+        fprintf(program.record, "%c %u\n", " TLC"[entry->kind], entry->station);
+        host_write_out(program.record, program.record_name);
     }
 }
 
 static void write_fault(void *context, const struct vcube_fault *fault)
 {
     (void)context;
-    begin_line("fault");
-    printf("%u %u %u %u %u %u\n", (unsigned)fault->kind, fault->board, fault->tested, fault->should_test, fault->said, fault->should_say);
-    fflush(stdout);
+    host_say("fault", "%u %u %u %u %u %u", (unsigned)fault->kind, fault->board, fault->tested, fault->should_test, fault->said,
+             fault->should_say);
 }
 
 static void write_silence(void *context, bool is_silent)
 {
     (void)context;
-    begin_line("say");
-    puts(is_silent ? "nobody answers the bus master: the cable is out, or all boards are dead" : "boards are heard again");
-    fflush(stdout);
+    host_say("say", is_silent ? "nobody answers the bus master: the cable is out, or all boards are dead" : "boards are heard again");
 }
 
 static void begin_pace(void *context, const struct vcube_entry *entry)
@@ -108,8 +93,14 @@ static void begin_pace(void *context, const struct vcube_entry *entry)
         vcube_master_rest(&program.master, true);
 }
 
+/* Until what was written is on the disk. What is no file cannot be synced. */
+static int sync_file(int file)
+{
+    return program.no_sync || fsync(file) == 0 || errno == EINVAL ? 0 : -1;
+}
+
 /* What is printed and recorded may be ahead of what is saved, by the last entry, and never behind it. The new file is written aside, and put in the
- * place of the old one: a crash leaves the one or the other. For a power failure it would have to be synced too. */
+ * place of the old one: a crash leaves the one or the other, and so does a power failure, as each is synced before what rests on it. */
 static void save(void *context, const uint8_t *saved, size_t length)
 {
     char aside[LONGEST_NAME];
@@ -120,35 +111,46 @@ static void save(void *context, const uint8_t *saved, size_t length)
         write_entry(&program.master.last);
     if (program.save == NULL)
         return;
+    if (program.record != NULL && sync_file(fileno(program.record)) != 0)
+        host_fail("master", program.record_name);
     snprintf(aside, sizeof aside, "%s.new", program.save);
     file = fopen(aside, "wb");
-    if (file == NULL || fwrite(saved, 1, length, file) != length || fclose(file) != 0 || rename(aside, program.save) != 0)
-        fail(program.save);
+    if (file == NULL || fwrite(saved, 1, length, file) != length || fflush(file) != 0 || sync_file(fileno(file)) != 0 || fclose(file) != 0 ||
+        rename(aside, program.save) != 0 || sync_file(program.save_folder) != 0)
+        host_fail("master", program.save);
+}
+
+/* What was saved is in this folder. Without --again it is removed: it is of another run. */
+static void open_save(const char *name)
+{
+    char folder[LONGEST_NAME];
+
+    program.save_folder = open(dirname(strcpy(folder, name)), O_RDONLY | O_DIRECTORY);
+    if (program.save_folder < 0 || (!program.again && ((remove(name) != 0 && errno != ENOENT) || sync_file(program.save_folder) != 0)))
+        host_fail("master", name);
 }
 
 /* The record, with just the lines of the entries that there are. One line more may stand there, of an entry that was not saved. */
 static void open_record(uint32_t entries)
 {
     uint32_t line;
+    int byte = 0;
 
     program.record = fopen(program.record_name, entries > 0 ? "r+" : "w");
     if (program.record == NULL)
-        fail(program.record_name);
+        host_fail("master", program.record_name);
     if (entries == 0) {
         fprintf(program.record, "%zu\n", program.settings.n);
-        fflush(program.record);
+        host_write_out(program.record, program.record_name);
         return;
     }
-    for (line = 0; line <= entries && line <= MOST_RECORDED; line++) {
-        int byte;
-
+    for (line = 0; line <= entries && line <= MOST_RECORDED && byte != EOF; line++)
         do
             byte = getc(program.record);
         while (byte != '\n' && byte != EOF);
-    }
-    fseek(program.record, 0, SEEK_CUR);
-    if (ftruncate(fileno(program.record), ftell(program.record)) != 0)
-        fail(program.record_name);
+    errno = ENODATA;
+    if (byte == EOF || fseek(program.record, 0, SEEK_CUR) != 0 || ftruncate(fileno(program.record), ftell(program.record)) != 0)
+        host_fail("master", program.record_name);
 }
 
 /* Goes on from what was saved. Gives whether there is anything: what is not saved was told to nobody. */
@@ -162,7 +164,7 @@ static bool resume(void)
     if (file == NULL && errno == ENOENT)
         return false;
     if (file == NULL)
-        fail(program.save);
+        host_fail("master", program.save);
     length = fread(saved, 1, sizeof saved, file);
     fclose(file);
     error = vcube_master_resume(&program.master, &program.settings, saved, length);
@@ -181,38 +183,39 @@ static void write_words(void)
     for (outcome = VCUBE_OUTCOME_PASS_FINISHED; outcome <= VCUBE_OUTCOME_TESTED_TOLD; outcome++)
         if (vcube_outcome_words(outcome, words, sizeof words) == VCUBE_ACCEPTED)
             printf("outcome %zu %s\n", outcome, (const char *)words);
-    fflush(stdout);
+    host_write_out(stdout, "standard output");
 }
 
-static void read_options(int count, char **words)
+static void read_arguments(int count, char **words)
 {
-    int place;
+    static int stops;
+    static const struct option options[] = {
+        {"reply", required_argument, NULL, 'r'}, {"save", required_argument, NULL, 's'}, {"record", required_argument, NULL, 'c'},
+        {"pace", required_argument, NULL, 'p'}, {"no-sync", no_argument, &program.no_sync, 1}, {"again", no_argument, &program.again, 1},
+        {"stop-at-fault", no_argument, &stops, 1}, {0, 0, 0, 0}};
+    int option;
 
-    for (place = 4; place < count; place++) {
-        const char *const name = words[place], *const value = place + 1 < count ? words[place + 1] : "";
-
-        if (strcmp(name, "--stop-at-fault") == 0) {
-            program.settings.stops_at_fault = true;
-            continue;
-        }
-        if (strcmp(name, "--again") == 0) {
-            program.again = true;
-            continue;
-        }
-        if (strcmp(name, "--reply") == 0)
-            program.settings.times = host_times(host_number(value, 1000000));
-        else if (strcmp(name, "--save") == 0 && strlen(value) < LONGEST_NAME - 10)
-            program.save = value;
-        else if (strcmp(name, "--record") == 0)
-            program.record_name = value;
-        else if (strcmp(name, "--pace") == 0)
-            program.pace = host_number(value, 1000000);
-        else {
-            fprintf(stderr, "master: no such argument: %s %s\n", name, value);
+    program.settings.times = host_times(20);
+    while ((option = getopt_long(count, words, "", options, NULL)) != -1) {
+        if (option == 'r')
+            program.settings.times = host_times(host_number(optarg, 1000000));
+        else if (option == 's' && strlen(optarg) < LONGEST_NAME - 10)
+            program.save = optarg;
+        else if (option == 'c')
+            program.record_name = optarg;
+        else if (option == 'p')
+            program.pace = host_number(optarg, 1000000);
+        else if (option != 0)
             exit(2);
-        }
-        place++;
     }
+    if (count - optind != 3) {
+        fputs("Usage: master CABLE WIRING SIZE [--reply MS] [--save FILE] [--record FILE] [--no-sync] [--pace MS] [--stop-at-fault] [--again]\n",
+              stderr);
+        exit(2);
+    }
+    program.settings.stops_at_fault = stops;
+    program.settings.wiring = host_wiring(words[optind + 1]);
+    program.settings.n = host_number(words[optind + 2], 1000);
 }
 
 /* The last entry is told for as long as a board needs to hear it. */
@@ -237,25 +240,18 @@ int main(int count, char **words)
     struct vcube_cable cable;
     bool has_stopped = false;
 
-    if (count < 4) {
-        fputs("Usage: master CABLE WIRING SIZE [--reply MS] [--save FILE] [--record FILE] [--pace MS] [--stop-at-fault] [--again]\n", stderr);
-        return 2;
-    }
+    read_arguments(count, words);
     host_signals();
-    program.settings.wiring = host_wiring(words[2]);
-    program.settings.n = host_number(words[3], 1000);
-    program.settings.times = host_times(20);
     program.settings.entered = begin_pace;
     program.settings.fault = write_fault;
     program.settings.save = save;
     program.settings.silence = write_silence;
-    read_options(count, words);
     if (vcube_version() != VCUBE_VERSION_NUMBER) {
         fprintf(stderr, "master: the header is of version %u, the library of %u\n", (unsigned)VCUBE_VERSION_NUMBER, (unsigned)vcube_version());
         return 1;
     }
-    if (program.save != NULL && !program.again && remove(program.save) != 0 && errno != ENOENT)
-        fail(program.save);
+    if (program.save != NULL)
+        open_save(program.save);
     if (!program.again || program.save == NULL || !resume()) {
         const uint8_t error = vcube_master_start(&program.master, &program.settings);
 
@@ -267,12 +263,9 @@ int main(int count, char **words)
     if (program.record_name != NULL)
         open_record(program.master.entries);
     write_words();
-    if (program.again) {
-        begin_line("again");
-        printf("%lu\n", (unsigned long)program.master.entries);
-        fflush(stdout);
-    }
-    host_open(&host, words[1]);
+    if (program.again)
+        host_say("again", "%lu", (unsigned long)program.master.entries);
+    host_open(&host, words[optind]);
     host.pauses.longest = program.settings.times.repeat;
     cable = host_cable(&host);
     while (!host_is_over()) {
@@ -280,13 +273,13 @@ int main(int count, char **words)
         if (program.pace > 0 && host_now() - program.pace_begin >= program.pace)
             vcube_master_rest(&program.master, false);
         if (vcube_master_has_stopped(&program.master) && !has_stopped) {
-            begin_line("stopped");
-            puts("0");
-            fflush(stdout);
+            host_say("stopped", "0");
             has_stopped = true;
         }
     }
     host_forget_signal();
     rest(&cable);
+    if (program.record != NULL && fclose(program.record) != 0)
+        host_fail("master", program.record_name);
     return 0;
 }

@@ -1,8 +1,10 @@
 //! The record of many calls, made by several threads in blocks.
 
+use std::collections::BTreeMap;
 use std::num::NonZero;
 use std::ops::RangeInclusive;
 use std::sync::mpsc::sync_channel;
+use std::sync::Mutex;
 use std::thread;
 
 use shared::record;
@@ -15,6 +17,9 @@ const CALLS: usize = 256;
 
 /// Blocks that wait to be taken, of each thread.
 const WAITING: usize = 4;
+
+/// How many calls of each function were made for records.
+pub static COUNTS: Mutex<BTreeMap<&str, u64>> = Mutex::new(BTreeMap::new());
 
 /// Hands over the calls with these numbers, and what they give, block by block, until one is not taken.
 pub fn record(source: Source, numbers: RangeInclusive<u64>, mut takes: impl FnMut(&[u8]) -> bool) {
@@ -48,6 +53,7 @@ fn block(source: Source, numbers: RangeInclusive<u64>) -> Vec<u8> {
     let mut text = Vec::new();
     for number in numbers {
         let call = source.call(number);
+        *COUNTS.lock().expect("no thread panics").entry(call.function.name).or_insert(0) += 1;
         record::write(&call, &answer::answer(&call), &mut text);
     }
     text

@@ -20,6 +20,7 @@ use std::panic;
 use std::path::{Path, PathBuf};
 use std::process::ExitCode;
 
+use shared::header::{self, Function};
 use shared::record::Reader;
 
 use generate::Source;
@@ -105,7 +106,18 @@ fn compare(options: &Options, programs: &[PathBuf]) -> Result<String, String> {
         }
         said = said + "\n" + &text;
     }
-    Ok(said)
+    Ok(said + "\nof these: " + &counted(numbers.clone().count())?)
+}
+
+/// How many calls of each function of the header there were. Where there are many, there must be some of each.
+fn counted(calls: usize) -> Result<String, String> {
+    let counts = blocks::COUNTS.lock().expect("no thread panics");
+    let of_one = |function: &Function| match (counts.get(function.name), function.name) {
+        (None, name) if calls >= 100_000 => Err(format!("compare: there was no call of {name}")),
+        (count, name) => Ok(format!("{} {name}", count.unwrap_or(&0))),
+    };
+    let counted: Result<Vec<_>, _> = header::functions().iter().map(of_one).collect();
+    Ok(counted?.join(", "))
 }
 
 /// What was found, and a small call of that function that gives something else, if there is one.
