@@ -22,32 +22,15 @@ pub(crate) fn close_round(table: &mut TableMut, i: Station) -> bool
     over
 }
 
-// Whether a station is live and all live ones are finished. i is looked at first, since most often it is live and has not finished; then the one
-// behind it, which has not where stations take turns by rising number.
+// Whether a station is live and all live ones are finished. i is looked at first, since most often it is live and has not finished; then the last
+// one, which finishes last where stations take turns by rising number.
 #[tactic(auto, using(table::proofs::Accepting::rounds))]
 fn round_over(table: &Table, i: Station) -> bool
     requires { i.0 < table.now.n }
     ensures { result ≡ round_over table.now.n table.now.bytes.now }
 {
-    if !table.finished_if_live(i) {
-        return false;
-    }
-    if !table.finished_if_live(station_behind(table.n, i)) {
-        return false;
-    }
-    table.is_round_over()
-}
-
-// The station behind i; behind the last comes 0.
-fn station_behind(n: u8, i: Station) -> Station
-    requires { i.0 < n }
-    ensures { result.0 < n }
-{
-    if i.0 + 1 < n {
-        Station(i.0 + 1)
-    } else {
-        Station(0)
-    }
+    let last = Station(table.n - 1);
+    table.finished_if_live(i) && table.finished_if_live(last) && table.is_round_over()
 }
 
 // Every line, live or not, begins a new round.
