@@ -51,7 +51,7 @@ made_of = $(if $(is_program),target/bin/$1,$(if $(kind_$1),target/staticlib/lib$
 # The crates that the goals need, each behind those that it uses. rt works on one at a time in a repository, so they wait for each other.
 asked := $(or $(MAKECMDGOALS),all)
 of_programs := programs install-programs test-programs $(programs:%=target/bin/%)
-with_programs := all install before-rt-ci test-package test-mutants test-plant $(of_programs)
+with_programs := all install before-rt-ci test-package test-mutants test-plant test-reliability $(of_programs)
 roots := $(if $(filter-out $(of_programs),$(asked)),vcube) \
     $(if $(filter $(with_programs),$(filter-out target/bin/%,$(asked))),$(programs)) $(notdir $(filter target/bin/%,$(asked)))
 needed := $(call with_below,$(roots))
@@ -158,7 +158,10 @@ target/portable-board/vcube_portable_board.c: target/wasm/vcube.wasm bindings/po
 	    paste -sd , | sed 's/^/[/; s/$$/]/' >"$$made/graph"
 	wasm-metadce $(wasm_features) $< --graph-file="$$made/graph" -o "$$made/board.wasm" >/dev/null
 	wasm-dis "$$made/board.wasm" | sed '/^ (data /d' >"$$made/board.wat"
-	if grep -v '^ (global' "$$made/board.wat" | grep -E '(const |offset=)(6553[6-9]|655[4-9][0-9]|65[6-9][0-9]{2}|6[6-9][0-9]{3}|[7-9][0-9]{4}|1[0-2][0-9]{4})\b' >&2; then
+	heap=$$(wasm-dis $< | sed -nE 's/^ \(global \$$global\$$[0-9]+ i64 \(i64\.const ([0-9]+)\)\)$$/\1/p')
+	[[ $$heap =~ ^[0-9]+$$ ]] || { echo 'where the constants of the module end is not found' >&2; exit 1; }
+	if grep -v '^ (global' "$$made/board.wat" | grep -oE '(const |offset=)[0-9]+' |
+	    awk -F '[ =]' -v end="$$heap" '$$2 >= 65536 && $$2 < end { print; found = 1 } END { exit !found }' >&2; then
 	    echo 'a call of a board reads constants of the module' >&2
 	    exit 1
 	fi
@@ -279,7 +282,7 @@ test-linked-tests: archive
 	    cargo check --package=vcube --lib --no-default-features --offline --locked --quiet)
 test-clippy: archive
 	@$(call of_cargo,clippy,cargo clippy --workspace --all-targets --offline --locked --quiet -- -D warnings)
-test-reliability: archive
+test-reliability: archive programs $(if $(and $(shell command -v wasm-opt),$(shell command -v wasm2c)),portable)
 	@$(call step,tests/reliability/run)
 test-kept-page: page
 	@$(call step,cmp target/vcube.html docs/vcube.html || { echo 'docs/vcube.html is not what ./page makes: make kept-page makes it anew'; false; })
