@@ -22,15 +22,13 @@ pub(crate) fn close_round(table: &mut TableMut, i: Station) -> bool
     over
 }
 
-// Whether a station is live and all live ones are finished. i is looked at first, since most often it is live and has not finished; then the last
-// one, which finishes last where stations take turns by rising number.
+// Whether a station is live and all live ones are finished. i is looked at first, since most often it is live and has not finished.
 #[tactic(auto, using(table::proofs::Accepting::rounds))]
 fn round_over(table: &Table, i: Station) -> bool
     requires { i.0 < table.now.n }
     ensures { result ≡ round_over table.now.n table.now.bytes.now }
 {
-    let last = Station(table.n - 1);
-    table.finished_if_live(i) && table.finished_if_live(last) && table.is_round_over()
+    table.finished_if_live(i) && table.is_round_over()
 }
 
 // Every line, live or not, begins a new round.
