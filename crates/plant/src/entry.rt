@@ -86,6 +86,7 @@ pub(crate) fn take_entry(
     let outcome = done.outcome_byte();
     let over = rounds::close_round(table, station);
     let status = table.read().get(station, cells::STATUS);
+    // By index, which is faster here than a copy of four bytes.
     line[0] = station.0;
     line[1] = tested;
     line[2] = outcome;
