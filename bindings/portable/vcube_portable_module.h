@@ -158,14 +158,11 @@ void vcube_rt_free_memory(wasm_rt_memory_t *made)
  * Accesses within MARGIN bytes of one base have the same check, which the compiler then makes once. By it the last MARGIN bytes of the memory
  * are outside as a base; no buffer has any of them. */
 
-#define IS_OUTSIDE(base, offset, length)                                   \
-    ((offset) <= MARGIN - (length) ? (base) > sizeof memory - MARGIN       \
-                                   : (offset) > sizeof memory - (length) || \
-                                         (base) > sizeof memory - (length) - (offset))
-
+/* Of a length of 1 to MARGIN. */
 INLINE uint8_t *to_write(uint32_t base, uint32_t offset, size_t length)
 {
-    if (UNLIKELY(IS_OUTSIDE(base, offset, length)))
+    if (UNLIKELY(offset <= MARGIN - length ? base > sizeof memory - MARGIN
+                                           : offset > sizeof memory - length || base > sizeof memory - length - offset))
         vcube_rt_trap(WASM_RT_TRAP_OOB);
     return memory + base + offset;
 }
@@ -205,21 +202,21 @@ static inline const uint8_t *part_to_read(uint32_t at, size_t length)
 #define part_to_read part_to_write
 #endif
 
-#define DEFINE_LOAD(name, stored, read, given)                 \
-    DEFINE_LOAD_BY(to_read, name, stored, read, given)         \
+#define DEFINE_LOAD(name, stored, read, given)         \
+    DEFINE_LOAD_BY(to_read, name, stored, read, given) \
     DEFINE_LOAD_BY(to_read_anywhere, name##_anywhere, stored, read, given)
-#define DEFINE_LOAD_BY(reach, name, stored, read, given)                                \
-    INLINE given name(u32 base, u32 offset)                                             \
-    {                                                                                   \
-        stored number;                                                                  \
-        copy_number(&number, reach(base, offset, sizeof number), sizeof number);        \
-        return (given)(read)number;                                                     \
+#define DEFINE_LOAD_BY(reach, name, stored, read, given)                         \
+    INLINE given name(u32 base, u32 offset)                                      \
+    {                                                                            \
+        stored number;                                                           \
+        copy_number(&number, reach(base, offset, sizeof number), sizeof number); \
+        return (given)(read)number;                                              \
     }
-#define DEFINE_STORE(name, stored, taken)                                               \
-    static inline void name(u32 base, u32 offset, taken value)                          \
-    {                                                                                   \
-        const stored number = (stored)value;                                            \
-        copy_number(to_write(base, offset, sizeof number), &number, sizeof number);     \
+#define DEFINE_STORE(name, stored, taken)                                           \
+    static inline void name(u32 base, u32 offset, taken value)                      \
+    {                                                                               \
+        const stored number = (stored)value;                                        \
+        copy_number(to_write(base, offset, sizeof number), &number, sizeof number); \
     }
 #define memory_fill(unused, at, value, length) fill(part_to_write(at, length), (uint8_t)(value), length)
 #define memory_copy(unused, as_well, to, from, length) move(part_to_write(to, length), part_to_read(from, length), length)
