@@ -64,12 +64,7 @@ pub(crate) fn check_entry(
 
 // An entry that is not refused: what it does, and its line of the run sheet. The answer is the tally after it.
 // Table and tally stay two parameters: the tally is a value that each entry answers anew, and a struct of both would be taken apart there.
-pub(crate) fn take_entry(
-    table: &mut TableMut,
-    tally: Tally,
-    entry: Entry,
-    line: &mut [u8],
-) -> Tally
+pub(crate) fn take_entry(table: &mut TableMut, tally: Tally, entry: Entry, line: &mut [u8]) -> Tally
     requires table_obeys { table_check table.old.wiring table.old.n table.old.bytes.now ≡ Ok tt }
     requires entry_taken { entry_check table.old.n
         (state_with table.old.bytes.now tally) (entry_known entry) ≡ Ok tt }

@@ -70,12 +70,7 @@ fn check_start(
 }
 
 // Takes the entries in order. `single` uses it too, so that an entry is taken in one place only, which the compiler then puts in line.
-pub(crate) fn go_on(
-    table: &mut TableMut,
-    tally: Tally,
-    schedule: &[u8],
-    sheet: &mut [u8],
-) -> Ran
+pub(crate) fn go_on(table: &mut TableMut, tally: Tally, schedule: &[u8], sheet: &mut [u8]) -> Ran
     requires { start_check table.old.wiring table.old.n table.old.bytes.now (length schedule.now) (length sheet.old)
         ≡ Ok tt }
     ensures same_loan { IsSameLoan table.old table.new }
