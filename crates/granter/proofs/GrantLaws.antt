@@ -8,18 +8,18 @@ use native.Mathlib.Omega.{arith}
 use borrow.Author.Tests.{ltb-true, ltb-false, lt-ltb, lt-leb, leb-false, not-true, not-false}
 use lib.Dec.{ltb, leb, eqb}
 use Rattle.lists.specs.Search.{least, every}
-use Rattle.lists.specs.Refusal.{Check, ◌and◌, number_of_result}
+use Rattle.lists.specs.Refusal.{◌and◌}
 use Rattle.table.specs.Table.{finished, live}
 use Rattle.table.specs.Rules.{some_live, finished_if_live, live_finished, round_over, table_check}
 use Rattle.lists.proofs.BoolLaws.{by_bool}
 use Rattle.lists.proofs.SearchLaws.{both, every-all, least-between, least-passes, least-before}
 use Rattle.table.proofs.Accepting.{Accepted, table_ok}
-use Rattle.std.specs.Prelude.{Ok, Err}
+use Rattle.std.specs.Prelude.{Ok}
 use Rattle.lists.proofs.RefusalLaws.{ensure_ok, and_ok}
 use Rattle.table.specs.declared.wiring.Wiring.{Wiring}
 use Rattle.plant.specs.Turn.{kind_turn}
 use Rattle.plant.specs.Entry.{State, entry_of, tally_full, entry_check}
-use Rattle.granter.specs.Grant.{no_grant, waits, first_from, following, granted, last_check, grant_check, grant_answer}
+use Rattle.granter.specs.Grant.{no_grant, waits, first_from, following, granted, last_check, grant_check}
 
 -- who waits is live and not finished
 pub waits-is : (n : ℕ) (t : List ℕ) (i : ℕ) → not (finished_if_live n t i) ≡ waits n t i

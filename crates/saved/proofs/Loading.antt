@@ -21,7 +21,7 @@ use Rattle.table.specs.declared.wiring.Wiring.TheVariants.{Cube}
 use Rattle.saved.specs.Fields.{runs_past, fields_of}
 use Rattle.saved.specs.Plant.{plant_check, line_field_length, lines_right, table_in}
 use Rattle.saved.specs.Order.{order_check}
-use Rattle.saved.specs.Load.{file_size, file_lines, size_check, rest_check, rest_after, load_check, saved_size}
+use Rattle.saved.specs.Load.{file_lines, size_check, rest_check, rest_after, load_check, saved_size}
 use Rattle.saved.specs.Load.{loaded_of, load_answer, load_after}
 use Rattle.saved.specs.Reading.{opened, table_read}
 use Rattle.saved.specs.declared.edition.Edition.TheVariants.{Two}

@@ -25,9 +25,8 @@ use Rattle.input.specs.Input.{Reading, lines, read_input}
 use Rattle.input.specs.Fault.{fault_in}
 use Rattle.input.specs.Words.{fault_words}
 use Rattle.plant.specs.declared.Tally.{Tally}
-use Rattle.plant.specs.Entry.{State, state_of}
 use Rattle.plant.specs.Run.{RunResult, stop_refusal}
-use Rattle.granter.specs.Drive.{DriveResult, drive_outcome}
+use Rattle.granter.specs.Drive.{DriveResult}
 use Rattle.lamp.specs.declared.Doubt.{Doubt}
 use Rattle.saved.specs.declared.Loaded.{Loaded}
 use Rattle.figures.specs.declared.Figures.{Figures}

@@ -3,7 +3,7 @@ ghost use Rattle.std.specs.Prelude.{◌≡◌, length};
 ghost use Rattle.std.specs.Result.{result_unwrap_or, result_map_both};
 ghost use Rattle.lists.specs.Refusal.{number_of_result};
 ghost use Rattle.station.specs.Outcome.{outcome_byte};
-ghost use Rattle.board.specs.Calls.{place_check, line_check, row_check, turn_check, sent_check, exchanged_check};
+ghost use Rattle.board.specs.Calls.{place_check, line_check, row_check, sent_check, exchanged_check};
 ghost use Rattle.board.specs.Calls.{next_answer, replied_answer, not_replied_answer};
 ghost use Rattle.board.specs.Calls.{fresh_after, row_sent, replied_after, not_replied_after, told_after, exchanged_after, closed_after};
 ghost use Rattle.vcube.specs.Exports.{on_wiring, no_such_wiring, station_number};
