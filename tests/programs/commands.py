@@ -11,7 +11,7 @@ import subprocess
 import tempfile
 
 from case import Case, call, difference
-from words import ROOT, sample
+from words import ROOT, program, sample
 
 COPIED = ['watch', 'sheet', 'convert', 'Makefile', 'packaging/library.mk', 'include/vcube.h']
 RT = '''#!/bin/sh
@@ -28,7 +28,7 @@ PROVES_LOW = 'proving low (1 of 3) ..\nlow proved (N s)\n'
 PROVES_BETWEEN = 'proving between (2 of 3) ..\nbetween proved (N s)\n'
 PROVES_IT = 'proving NAME (3 of 3) ..\nNAME proved (N s)\n'
 FAILS = 'proving low (1 of 3) ..\nfn half: no proof\nlow is not proved\n'
-NO_RT = 'rt, the command of the Rattle toolchain, is not found\n'
+NO_RT = 'NAME: rt, the command of the Rattle toolchain, is not found\n'
 
 # One after the other, for each of ./watch, ./sheet and ./convert, which stands for NAME: what is done to the repository before (shell); the
 # folder, the command and its arguments; the status, standard output and standard error. The input is `input` and a line feed.
@@ -43,7 +43,16 @@ STEPS = [
     ('touch crates/low/broken; echo >>crates/low/src/lib.rt', '.', './NAME 8 4', 1, '', FAILS),
     ('', '.', './NAME 8 4', 1, '', FAILS),
     ('rm crates/low/broken', '.', './NAME 8 4 2>/dev/full', 0, '8 4\ninput\n', ''),
-    ('mv bin/rt rt', '.', './NAME 8 4', 1, '', NO_RT),
+    ('', '.', './NAME wrong <&- 2>&-', 2, '', ''),
+    ('mv bin/rt rt', '.', './NAME 8 4', 2, '', NO_RT),
+]
+# And for ./watch: a file, and the folder of the repository, whose names are not UTF-8. The latter's program is the proved one, and nothing is made.
+OF_WATCH = [
+    (r'mv rt bin/rt; echo 4 >"$(printf "\377")"', '.', r'./NAME "$(printf "\377")"', 0, '\n4\n', ''),
+    (r'echo 4 >"$(printf "\364\220\200\200")"', '.', r'./NAME "$(printf "\364\220\200\200")"', 0, '\n4\n', ''),
+    (r'echo 4 >"$(printf -- "-\377")"', '.', r'./NAME "$(printf -- "-\377")" | tail -n 1', 0, 'input\n', ''),
+    (r'at=$(printf "in\377"); mkdir -p "$at/target/bin"; cp NAME "$at"; ln -s "$PROVED" "$at/target/bin/NAME"; ln -s "$(command -v true)" bin/make',
+     '.', r'"$(printf "in\377")/NAME" --help | head -n 1', 0, 'Usage: ./watch [--ring] [FILE]\n', ''),
 ]
 
 # In this repository, where they have nothing to do: the command, the status, standard output and standard error, or how these begin (..)
@@ -82,7 +91,7 @@ def check(case):
         return difference(case, case.name, call(['env', '-C', ROOT, 'LC_ALL=C'], case))
     with tempfile.TemporaryDirectory() as small:
         lay_out(case.name, small)
-        return ''.join(take(case.name, small, step) for step in STEPS)
+        return ''.join(take(case.name, small, step) for step in STEPS + (OF_WATCH if case.name == 'watch' else []))
 
 
 def lay_out(name, small):
@@ -104,7 +113,7 @@ def take(name, small, step):
     change, folder, command, *rest = [text.replace('NAME', name) if isinstance(text, str) else text for text in step]
     without_rt = [path for path in os.environ['PATH'].split(':') if not os.path.exists(os.path.join(path, 'rt'))]
     env = os.environ | {'LC_ALL': 'C', 'PATH': ':'.join([os.path.join(small, 'bin'), *without_rt])}
-    subprocess.run(['sh', '-c', change], cwd=small, check=True)
+    subprocess.run(['sh', '-c', change], cwd=small, env=os.environ | {'PROVED': program(name)}, check=True)
     done = subprocess.run(['sh', '-c', command], cwd=os.path.join(small, folder), env=env, input=b'input\n', capture_output=True, check=False)
     err = re.sub(rb'make: \*\*\* .*\n', b'', re.sub(rb'\(\d+ s\)', b'(N s)', done.stderr))  # without make's own words
     found = done.returncode, done.stdout, err, {}

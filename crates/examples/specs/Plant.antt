@@ -13,7 +13,7 @@ use Rattle.plant.specs.Entry.{state_of}
 use Rattle.plant.specs.Run.{RunResult, stop_refusal, run}
 use Rattle.lists.specs.Sums.{sum_below}
 use Rattle.table.specs.declared.wiring.Wiring.TheVariants.{Cube}
-use Rattle.detection.specs.Claim.{group_without_live, pairs_without_live, tests_per_round}
+use Rattle.detection.specs.Claim.{group_without_live, pairs_without_live, count_of}
 use Rattle.examples.specs.Example.{Example, expect, AllHold}
 use Rattle.plant.proofs.WholeRun.{whole_run}
 use Rattle.lists.specs.Refusal.{number_of_result}
@@ -25,9 +25,9 @@ nobody = replicate 8 0
 abbrev pub only_four : List ℕ
 only_four = 0 ∷ 0 ∷ 0 ∷ 0 ∷ 1 ∷ 0 ∷ 0 ∷ 0 ∷ []
 
--- the count of tests for n stations and a table
-abbrev pub count_of : ℕ → List ℕ → List ℕ
-count_of n t = tests_per_round n t ∷ []
+-- the count of tests for n stations and a table, as the detection claim has it on the cube
+abbrev pub counted : ℕ → List ℕ → List ℕ
+counted n t = count_of Cube n t ∷ []
 
 -- a table of eight with station 4 dead, and with 4 and 5 dead
 unfoldable pub four_dead : List ℕ
@@ -101,9 +101,9 @@ base_rules =
     ∷ expect (assignment_entries only_four 5 (other_distances 8 5))
     (1 ∷ 255 ∷ 2 ∷ 255 ∷ 3 ∷ 255 ∷ 4 ∷ 255 ∷ 5 ∷ 255 ∷ 6 ∷ 7 ∷ 7 ∷ 6 ∷ [])
     -- n = 8, the count of tests: none dead 24; 4 dead 23; 4 and 5 dead 20
-    ∷ expect (count_of 8 (fresh_table 8)) (24 ∷ [])
-    ∷ expect (count_of 8 four_dead) (23 ∷ [])
-    ∷ expect (count_of 8 four_and_five_dead) (20 ∷ [])
+    ∷ expect (counted 8 (fresh_table 8)) (24 ∷ [])
+    ∷ expect (counted 8 four_dead) (23 ∷ [])
+    ∷ expect (counted 8 four_and_five_dead) (20 ∷ [])
     -- 0 suspects 1, exchanges with 2, then with 3; 1 tests 0, is told and leaves. The row of 1 stays empty
     ∷ expect (stop_refusal four_boards.stopped ∷ four_boards.taken ∷ []) (0 ∷ 4 ∷ [])
     ∷ expect four_boards.sheet (0 ∷ 1 ∷ 3 ∷ 0 ∷ 0 ∷ 2 ∷ 1 ∷ 0 ∷ 0 ∷ 3 ∷ 1 ∷ 0 ∷ 1 ∷ 0 ∷ 2 ∷ 2 ∷ [])
@@ -128,11 +128,11 @@ later_rules =
     (2 ∷ 255 ∷ 3 ∷ 255 ∷ 8 ∷ 255 ∷ 9 ∷ 255 ∷ 10 ∷ 8 ∷ 11 ∷ 9 ∷ 12 ∷ 255 ∷ 13 ∷ 255 ∷ 14 ∷ 8 ∷ 15 ∷ 9 ∷ [])
     ∷ expect (assignment_entries (replicate 5 0) 4 (other_distances 5 4)) (4 ∷ 255 ∷ 5 ∷ 255 ∷ 6 ∷ 255 ∷ 7 ∷ 255 ∷ [])
     -- the count of tests: 3 boards, 5, 11, 11 with board 4 dead, and 19 (the program computes 63, too long for this table)
-    ∷ expect (count_of 3 (fresh_table 3)) (5 ∷ [])
-    ∷ expect (count_of 5 (fresh_table 5)) (13 ∷ [])
-    ∷ expect (count_of 11 (fresh_table 11)) (40 ∷ [])
-    ∷ expect (count_of 11 four_dead_of_eleven) (39 ∷ [])
-    ∷ expect (count_of 19 (fresh_table 19)) (88 ∷ [])
+    ∷ expect (counted 3 (fresh_table 3)) (5 ∷ [])
+    ∷ expect (counted 5 (fresh_table 5)) (13 ∷ [])
+    ∷ expect (counted 11 (fresh_table 11)) (40 ∷ [])
+    ∷ expect (counted 11 four_dead_of_eleven) (39 ∷ [])
+    ∷ expect (counted 19 (fresh_table 19)) (88 ∷ [])
     -- 0 suspects 1 and tests it; 1 leaves, and no row changes
     ∷ expect tested_told.sheet (0 ∷ 1 ∷ 5 ∷ 0 ∷ [])
     ∷ expect tested_told.state.table

@@ -4,9 +4,10 @@ ghost use Rattle.std.specs.Result.{result_map_both};
 ghost use Rattle.table.specs.Sizes.{level};
 ghost use Rattle.table.specs.Table.{row};
 ghost use Rattle.station.specs.Tests.{unsuspected, first, answer_of, answer, stands, due_distances};
+ghost use Rattle.station.specs.Ahead.{block_end};
 ghost use Rattle.station.specs.Calls.{answer_value, other_distances, assignment_entries, assignment_check, assignment_after, assignment_answer};
 
-use crate::{DueOrAhead, groups, rows};
+use crate::{DueOrAhead, groups, rows, wired};
 use lists::refusal::Refusal;
 use table::lent::Table;
 use table::wiring::Wiring;
@@ -73,6 +74,17 @@ fn answer_of(i: Station, x: Station) -> DueOrAhead
     } else {
         DueOrAhead::Ahead(x)
     }
+}
+
+// m with its digits below its lowest 1 all 1; 0 for 0. Whoever stands before a station in the group at distance m does so at every distance from m to
+// this one. The scan of a turn, which never asks it of 0, has that part for itself.
+pub fn block_end(m: Distance) -> Distance
+    ensures { result.0 ≡ block_end m.0 }
+{
+    if m.0 == 0 {
+        return m;
+    }
+    wired::block_end(m)
 }
 
 // The assignment of live station i: for each other station, by ascending distance, the distance, and 255 if it is due or else the one ahead; and

@@ -147,7 +147,7 @@ fn is_nearer_ahead(row: &[u8], i: Station, m: Distance) -> bool
 
 // m with its digits below its lowest 1 all 1. Whoever stands before a station in the group at distance m does so at every distance from m to
 // this one.
-fn block_end(m: Distance) -> Distance
+pub(crate) fn block_end(m: Distance) -> Distance
     requires { 0 < m.0 }
     ensures { result.0 ≡ block_end m.0 }
 {

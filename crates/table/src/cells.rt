@@ -22,6 +22,9 @@ pub const TOLD_BY_NONE: u8 = 255;
 
 pub const NOT_RECORDED: u8 = 254;
 
+// Where byte 5 stops.
+pub const ROUNDS_AGO_TOP: u8 = 255;
+
 // How many bytes of a line stand before its row.
 pub const HEAD: u16 = 6;
 

@@ -1,11 +1,13 @@
 // The lent table of the vCube watch: its layout, wiring, line rules, refusals 1 to 4, the fresh table, bytes and rows.
 //
 // The call for callers is fresh::fresh_table. The rest is open for the crates above. No function open to a caller has a `requires`, but for
-// those of `lent`, which are meant for crates that know that the line is there.
+// those of `lent` and `inside`, which are meant for crates that know that the line is there, and three that say so: fresh::write_line,
+// rules::keeps_row_rule, wiring::end_byte.
 #![tactic(auto)]
 
 pub mod cells;
 pub mod fresh;
+pub mod inside;
 pub mod lent;
 pub mod rules;
 pub mod sizes;
